@@ -1,0 +1,16 @@
+pub mod Order
+pub mod Tree
+pub mod Theory
+pub mod Diagram
+pub mod Parts
+pub mod Slots
+pub mod Event
+pub mod FeynmanRules
+pub mod Propagator
+pub mod Value
+pub mod WaveFunction
+pub mod Lines
+pub mod Answer
+pub mod Laws
+pub mod Name
+pub mod Model

@@ -1,0 +1,14 @@
+pub mod GaussSolver
+pub mod InverseLemmas
+pub mod ModLemmas
+pub mod NumeralOnce
+pub mod NumeralPhases
+pub mod NumeralPlaces
+pub mod NumeralReads
+pub mod NumeralStages
+pub mod NumeralTexts
+pub mod NumeralValues
+pub mod ProductLemmas
+pub mod RangeSums
+pub mod RingLemmas
+pub mod SumLemmas

@@ -1,0 +1,13 @@
+pub mod FindBelow
+pub mod FindBelowLemmas
+pub mod Laws
+pub mod Members
+pub mod Modulus
+pub mod NumeralOf
+pub mod NumeralScan
+pub mod Numerals
+pub mod Ops
+pub mod Products
+pub mod Sums
+pub mod ZpLaws
+pub mod ZpOps
