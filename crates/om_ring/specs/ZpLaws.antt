@@ -1,13 +1,12 @@
 -- The numbers below P are a ring.
-use Rattle.std.specs.Prelude.{◌≡◌, ℕ, zero, suc, ◌+◌, ◌-◌, ◌*◌, ◌%◌, ◌<◌, ◌==◌, true, false, Option, Some, None, MatchOption, refl}
+use Rattle.std.specs.Prelude.{◌≡◌, ℕ, zero, suc, ◌+◌, ◌*◌, ◌%◌, ◌<◌, ◌==◌, true, false, Option, Some, None, MatchOption, refl}
 use Rattle.std.specs.Coded.{le_prop}
 use Rattle.std.proofs.Common.{arith, ap, subst, ◌∙◌, sym, lit<}
 use Rattle.std.proofs.lemmas.Bool.{eqb-true, eq-eqb}
 use Rattle.std.proofs.Math.Nat.{add-mod-mod, mod-add-mod, mod-eq_of_lt}
 use Rattle.std.proofs.lemmas.Nat.{mul-mod_first, mul-mod_second}
 use Rattle.om_ring.specs.Modulus.{modulus}
-use Rattle.om_ring.specs.FindBelow.{find_below}
-use Rattle.om_ring.specs.Ops.{Ops, RingLaws, number_of}
+use Rattle.om_ring.specs.Ops.{RingLaws, number_of}
 use Rattle.om_ring.specs.ZpOps.{reduce, zp_inverse, zp, IsElement}
 use Rattle.om_ring.specs.declared.elem.Elem.{Elem}
 use Rattle.om_ring.specs.FindBelowLemmas.{find_below-finds}

@@ -1,0 +1,10 @@
+pub mod Lines
+pub mod Ending
+pub mod Follow
+pub mod Choices
+pub mod Table
+pub mod Partials
+pub mod Fitting
+pub mod Laws
+pub mod Texts
+pub mod Order

@@ -1,0 +1,52 @@
+//! The partial flow of a leg.
+ghost use Rattle.std.specs.Prelude.{◌≡◌, ◌+◌, ◌≤◌, ◌&&◌, Some, cond, eqb};
+ghost use Rattle.om_colour.specs.Lines.{ends_line, starts_line};
+ghost use Rattle.om_colour.specs.Lines.Side.{leg as leg_side};
+ghost use Rattle.om_colour.specs.Partials.{IsPartialOf, IsSound, each_leg, leg_partial};
+
+use crate::{Colour, Partial, UPWARDS};
+
+/// The partial flow of a leg from 1 to 12 that has this colour: its line leaves upwards where it starts one,
+/// and the line that enters ends at it where it ends one.
+pub fn partial_of_leg(leg: u8, colour: Colour) -> Partial
+    requires least { 1 ≤ leg }
+    requires most { leg ≤ 12 }
+    ensures value { result ≡ leg_partial leg colour }
+    ensures lines { IsPartialOf (leg_side leg colour) (Some result) }
+    ensures sound { IsSound (Some result) }
+{
+    Partial {
+        ends: ends_from(leg, colour),
+        into: end_within(leg, colour),
+    }
+}
+
+fn ends_from(leg: u8, colour: Colour) -> [u8; 12]
+    requires least { 1 ≤ leg }
+    requires most { leg ≤ 12 }
+    ensures { result ≡ each_leg (λ k. cond (starts_line colour && eqb (k + 1) leg) 13 0) }
+{
+    let mut ends = [0; 12];
+    if starts_line(colour) {
+        ends[leg as usize - 1] = UPWARDS;
+    }
+    ends
+}
+
+fn end_within(leg: u8, colour: Colour) -> u8
+    ensures { result ≡ cond (ends_line colour) leg 0 }
+{
+    if ends_line(colour) { leg } else { 0 }
+}
+
+fn starts_line(colour: Colour) -> bool
+    ensures { result ≡ starts_line colour }
+{
+    matches!(colour, Colour::Three | Colour::Eight)
+}
+
+fn ends_line(colour: Colour) -> bool
+    ensures { result ≡ ends_line colour }
+{
+    matches!(colour, Colour::AntiThree | Colour::Eight)
+}

@@ -1,0 +1,102 @@
+//! The texts of flows and partial flows.
+ghost use Rattle.std.specs.Prelude.{◌≡◌, ℕ, ◌+◌, ◌-◌, ◌*◌, ◌/◌, ◌≤◌, ◌<◌, ◌≢◌, List, ◌++◌, length, cond, eqb, decimal, []};
+ghost use Rattle.om_colour.specs.Texts.{end_text, flow_bytes, line_item, line_items, one_more, partial_bytes, with_commas};
+
+use crate::{Flow, Partial, UPWARDS};
+use om_ring::Line;
+
+// What a text shows the lines of.
+#[derive(Clone, Copy)]
+enum Extent {
+    Diagram,
+    Side,
+}
+
+/// Appends the text of a flow: an item `s>t` for each line from leg s to leg t, by rising starts, with commas
+/// between, and `-` where there is no line. Wants 80 free bytes, which suffice for any ends.
+pub fn flow_text(flow: &Flow, to: &mut Line)
+    requires { length to.old + 80 ≤ 512 }
+    ensures { to.new ≡ to.old ++ flow_bytes flow.now }
+{
+    let count = push_lines(to, Extent::Diagram, &flow.ends);
+    if count == 0 {
+        to.push(b"-");
+    }
+}
+
+/// Appends the text of a partial flow: as for a flow, with `s>` for a line that leaves upwards and last `>t` for
+/// the line that enters and ends at leg t. Wants 80 free bytes, which suffice for any ends.
+pub fn partial_text(part: &Partial, to: &mut Line)
+    requires { length to.old + 80 ≤ 512 }
+    ensures { to.new ≡ to.old ++ partial_bytes part.now }
+{
+    let count = push_lines(to, Extent::Side, &part.ends);
+    if part.into != 0 {
+        push_comma(to, count);
+        to.push(b">");
+        push_leg(to, part.into);
+    } else if count == 0 {
+        to.push(b"-");
+    }
+}
+
+// Appends the items of the lines, and says how many there are.
+fn push_lines(to: &mut Line, extent: Extent, ends: &[u8; 12]) -> usize
+    requires { length to.old + 75 ≤ 512 }
+    ensures text { to.new ≡ to.old ++ with_commas (line_items extent 1 ends.now) }
+    ensures count { result ≡ length (line_items extent 1 ends.now) }
+    ensures short { length to.new ≤ length to.old + 75 }
+{
+    let mut count = 0;
+    for (k, end) in ends.iter().enumerate() {
+        if *end != 0 {
+            push_item(to, count, extent, k as u8 + 1, *end);
+            count += 1;
+        }
+    }
+    count
+}
+
+// Appends the item of a line, behind a comma where it isn't the first.
+fn push_item(to: &mut Line, count: usize, extent: Extent, start: u8, end: u8)
+    requires start { start ≤ 12 }
+    requires free { length to.old + 7 ≤ 512 }
+    ensures text { to.new ≡ to.old ++ one_more count (line_item extent start end) }
+    ensures short { length to.new ≤ length to.old + 6 + start / 10 }
+{
+    push_comma(to, count);
+    push_leg(to, start);
+    to.push(b">");
+    match extent {
+        Extent::Side if end == UPWARDS => {},
+        _ => push_leg(to, end),
+    }
+}
+
+fn push_comma(to: &mut Line, count: usize)
+    requires { length to.old + 1 ≤ 512 }
+    ensures text { to.new ≡ to.old ++ one_more count [] }
+    ensures short { length to.new ≤ length to.old + 1 }
+{
+    if count > 0 {
+        to.push(b",");
+    }
+}
+
+// Appends the number of a leg.
+#[tactic(auto, using(std::proofs::lemmas::Fmt::decimal_digit, crate::proofs::LegNumbers::decimal_two, crate::proofs::LegNumbers::decimal_three))]
+fn push_leg(to: &mut Line, leg: u8)
+    requires { length to.old + 3 ≤ 512 }
+    ensures text { to.new ≡ to.old ++ decimal leg }
+    ensures short { length to.new ≤ length to.old + 3 }
+    ensures one { leg < 10 → length to.new ≤ length to.old + 1 }
+    ensures two { leg < 100 → length to.new ≤ length to.old + 2 }
+{
+    if leg < 10 {
+        to.push(&[b'0' + leg]);
+    } else if leg < 100 {
+        to.push(&[b'0' + leg / 10, b'0' + leg % 10]);
+    } else {
+        to.push(&[b'0' + leg / 100, b'0' + leg / 10 % 10, b'0' + leg % 10]);
+    }
+}

@@ -1,0 +1,15 @@
+pub mod Members
+pub mod Bits
+pub mod Operations
+pub mod LegLists
+pub mod Subsets
+pub mod Least
+pub mod Pairs
+pub mod Shares
+pub mod FirstPart
+pub mod Exact
+pub mod PrefixParity
+pub mod Crossings
+pub mod ShareSums
+pub mod SplitFacts
+pub mod Few

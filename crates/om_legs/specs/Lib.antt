@@ -1,0 +1,5 @@
+pub mod Legs
+pub mod Splits
+pub mod Walks
+pub mod Crossings
+pub mod Branches

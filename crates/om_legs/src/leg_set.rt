@@ -1,0 +1,149 @@
+ghost use Rattle.std.specs.Prelude.{◌≡◌, ℕ, ◌^◌, ◌<◌, ◌≤◌, ◌↔◌, ◌∷◌, IsTrue};
+ghost use Rattle.om_legs.specs.Legs.{IsLegSet, holds, size, least, set_of_one, all_legs, union, minus, complement, Meet, IsSubset};
+ghost use Rattle.om_legs.specs.Walks.{without_least, subsets_down};
+
+use std::marker::Model;
+
+/// A set of the external legs 1 to 12, seen as the number in which leg k counts 2^(k - 1).
+#[derive(Clone, Copy, PartialEq, Eq, PartialOrd, Ord, Hash, Debug)]
+pub struct LegSet {
+    bits: u16,
+}
+
+impl Model for LegSet {
+    ghost Value = { ℕ };
+
+    ghost view = { λ set. set.bits };
+
+    ghost invariant = { λ set. IsLegSet set.bits };
+
+    ghost inverse = { λ number. record { bits = number } };
+}
+
+impl LegSet {
+    /// The set without legs.
+    pub fn empty() -> LegSet
+        ensures { result ≡ 0 }
+    {
+        LegSet { bits: 0 }
+    }
+
+    /// The set of one leg, 1 to 12.
+    pub fn one(leg: u8) -> LegSet
+        requires some { 0 < leg }
+        requires within { leg ≤ 12 }
+        ensures { result ≡ set_of_one leg }
+    {
+        LegSet {
+            bits: 1 << (leg - 1),
+        }
+    }
+
+    /// The legs 1 to n, for n from 1 to 12.
+    pub fn all(n: u8) -> LegSet
+        requires some { 0 < n }
+        requires within { n ≤ 12 }
+        ensures { result ≡ all_legs n }
+    {
+        LegSet { bits: (1 << n) - 1 }
+    }
+
+    /// The legs of either set.
+    pub fn union(self, b: LegSet) -> LegSet
+        ensures legs { result ≡ union self b }
+        ensures valid { IsLegSet self × IsLegSet b }
+    {
+        LegSet {
+            bits: self.bits | b.bits,
+        }
+    }
+
+    /// The legs that `b` lacks.
+    pub fn minus(self, b: LegSet) -> LegSet
+        ensures legs { result ≡ minus self b }
+        ensures valid { IsLegSet self × IsLegSet b }
+    {
+        LegSet {
+            bits: self.bits & !b.bits,
+        }
+    }
+
+    /// The legs 1 to n, for n from 1 to 12, that are not in the set.
+    pub fn complement(self, n: u8) -> LegSet
+        requires some { 0 < n }
+        requires within { n ≤ 12 }
+        ensures legs { result ≡ complement self n }
+        ensures valid { IsLegSet self }
+    {
+        LegSet::all(n).minus(self)
+    }
+
+    /// Whether some leg is in both sets.
+    pub fn meets(self, b: LegSet) -> bool
+        ensures leg { IsTrue result ↔ Meet self b }
+        ensures valid { IsLegSet self × IsLegSet b }
+    {
+        self.bits & b.bits != 0
+    }
+
+    /// Whether a leg, 1 to 12, is in the set.
+    pub fn holds(self, leg: u8) -> bool
+        requires some { 0 < leg }
+        requires within { leg ≤ 12 }
+        ensures leg { result ≡ holds self leg }
+        ensures valid { IsLegSet self }
+    {
+        self.bits >> (leg - 1) & 1 == 1
+    }
+
+    /// The number of legs.
+    pub fn size(self) -> u8
+        ensures count { result ≡ size self }
+        ensures valid { IsLegSet self }
+    {
+        self.bits.count_ones() as u8
+    }
+
+    /// The least leg, or 0 where there is none.
+    pub fn least(self) -> u8
+        ensures leg { result ≡ least self }
+        ensures valid { IsLegSet self }
+    {
+        if self.bits == 0 {
+            0
+        } else {
+            self.bits.trailing_zeros() as u8 + 1
+        }
+    }
+
+    /// All legs but the least.
+    pub(crate) fn without_least(self) -> LegSet
+        ensures legs { result ≡ without_least self }
+        ensures valid { IsLegSet self }
+    {
+        match self.least() {
+            0 => self,
+            leg => self.minus(LegSet::one(leg)),
+        }
+    }
+
+    /// Of the subsets of `whole`, the one whose number comes next below that of this one.
+    pub(crate) fn subset_before(self, whole: LegSet) -> LegSet
+        requires some { 0 < self }
+        requires subset { IsSubset self whole }
+        ensures subset { IsSubset result whole }
+        ensures next { subsets_down whole self ≡ self ∷ subsets_down whole result }
+    {
+        LegSet {
+            bits: (self.bits - 1) & whole.bits,
+        }
+    }
+
+    /// The number of the set.
+    pub(crate) fn number(self) -> u16
+        ensures same { result ≡ self }
+        ensures valid { IsLegSet self }
+    {
+        self.bits
+    }
+}

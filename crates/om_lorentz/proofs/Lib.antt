@@ -1,0 +1,12 @@
+pub mod Chiral
+pub mod Clifford
+pub mod FourGluons
+pub mod GammaTable
+pub mod Metric
+pub mod Numerators
+pub mod Products
+pub mod Rotations
+pub mod SamePoly
+pub mod Turns
+pub mod Undirected
+pub mod Values

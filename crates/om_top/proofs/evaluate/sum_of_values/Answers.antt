@@ -1,0 +1,13 @@
+use Rattle.om_ring.specs.Ops.{laws_from}
+use Rattle.om_top.specs.EventOf.{event_of}
+use Rattle.om_top.specs.Evaluation.{shape_value}
+use Rattle.om_top.proofs.LoopLemmas.{sum_step_of}
+use Rattle.om_top.proofs.evaluate.sum_of_values.Goals as goal
+
+pub loop-diagram-preserved : goal.loop-diagram-preserved
+loop-diagram-preserved g c =
+    let ring = c.args.ring.now in let o = g.R.Ring.ops ring in
+    let l = laws_from (g.R.Ring.element ring) o (g.met.R.Ring.known ring) (g.met.R.Ring.laws ring) in
+    let value = shape_value o c.args.table.now (event_of o c.args.incoming.now) in
+    sum_step_of o l value c.args.diagrams.now c.loop-diagram.diagram-index c.diagram-item.result c.loop-diagram.total c.value_of-value.result c.add-total.result
+    c.loop-diagram-test.true c.diagram-item.is c.loop-diagram.invariant c.value_of-value.ensures c.add-total.ensures.value

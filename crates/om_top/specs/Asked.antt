@@ -1,0 +1,14 @@
+-- A command of the code as a command of the words.
+use Rattle.std.specs.Prelude.{ℕ, ◌≡◌, List, Option, Some, None}
+use Rattle.om_top.specs.Command.{command_of, eval, Command as Asked}
+use Rattle.om_top.specs.declared.command.Command.{Command}
+use Rattle.om_top.specs.declared.command.Command.TheVariants.{Eval, Unknown}
+
+-- the command as it stands in the words
+abbrev pub asked : Command → Option Asked
+asked (Eval model process) = Some (eval model.now process.now)
+asked Unknown = None
+
+-- the words ask for exactly this
+abbrev pub Asks : List (List ℕ) → Command → Type 0
+Asks words found = command_of words ≡ asked found

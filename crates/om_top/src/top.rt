@@ -1,0 +1,75 @@
+//! The top call.
+ghost use Rattle.std.specs.Prelude.{◌≡◌, map, string_bytes};
+ghost use Rattle.om_top.specs.declared.ending.Ending.{Ending as EndingOf};
+ghost use Rattle.om_top.specs.Command.{command_of as asked_of};
+ghost use Rattle.om_top.specs.Limits.{IsWithinLimits};
+ghost use Rattle.om_top.specs.Message.{Told, status_of};
+ghost use Rattle.om_top.specs.Outside.{Outside, side};
+ghost use Rattle.om_top.specs.Ran.{Ran};
+
+use crate::command::{Command, command_of};
+use crate::ending::{Ending, status};
+use crate::eval::eval;
+use crate::message::report;
+use om_io::{Folder, Sink, Source};
+use om_ring::{Ring, Steps};
+use std::alloc::Global;
+
+/// Does what the words after the program's name ask for, says on `err` how it ended, and answers the exit status.
+///
+/// `eval MODEL PROCESS` reads the file MODEL, then the events of the input, and writes their answers to `out`. All memory is
+/// taken before the first byte of the input is asked for. Each sum, product and inverse in `ring` is counted on `steps`.
+///
+/// The contract names an ending. It has the status and the line on `err`, which is missing only where `err` failed; what
+/// stands outside then is what `Ran` says of it. So a status comes exactly where no other ending fits, but for want of
+/// memory, which may come at any time before anything is read from the input or written to `out`, and for failures, which
+/// come only where the object's own count of faults rose.
+pub fn run<R: Ring<Mark = L>, F: Folder, S: Source, O: Sink, E: Sink, L>(
+    alloc: Global,
+    ring: &R,
+    words: &[String],
+    files: &mut F,
+    input: &mut S,
+    out: &mut O,
+    err: &mut E,
+    steps: &mut Steps<L>,
+) -> u8
+    requires { IsWithinLimits (map (λ w. string_bytes w) words.now) }
+    ensures { let outside : Outside = record {
+      file = λ name. side (λ f. F.file f name) (λ f. F.faults f name) files.old files.new;
+      input = side S.left S.faults input.old input.new;
+      out = side O.written O.faults out.old out.new;
+    } in
+        (ending : EndingOf) × (result ≡ status_of ending)
+        × Ran (R.ops ring.now) (R.text ring.now) (asked_of (map (λ w. string_bytes w) words.now)) outside ending
+        × Told (side E.written E.faults err.old err.new) ending }
+{
+    let ending = perform(alloc, ring, words, files, input, out, steps);
+    report(err, ending);
+    status(ending)
+}
+
+/// Does what the words ask for.
+fn perform<R: Ring<Mark = L>, F: Folder, S: Source, O: Sink, L>(
+    alloc: Global,
+    ring: &R,
+    words: &[String],
+    files: &mut F,
+    input: &mut S,
+    out: &mut O,
+    steps: &mut Steps<L>,
+) -> Ending
+    ensures { let outside : Outside = record {
+      file = λ name. side (λ f. F.file f name) (λ f. F.faults f name) files.old files.new;
+      input = side S.left S.faults input.old input.new;
+      out = side O.written O.faults out.old out.new;
+    } in
+        Ran (R.ops ring.now) (R.text ring.now) (asked_of (map (λ w. string_bytes w) words.now)) outside result }
+{
+    match command_of(words) {
+        Command::Eval(name, process) => {
+            eval(alloc, ring, files, name, process, input, out, steps)
+        }
+        Command::Unknown => Ending::Usage,
+    }
+}
