@@ -1,14 +1,13 @@
 -- There is exactly one list of all diagrams.
-use Rattle.std.proofs.Common.{◌≡◌, ℕ, zero, suc, ◌+◌, ◌-◌, ◌<◌, ◌≤◌, List, [], ◌∷◌, ◌++◌, map, flat_map, length, filter, Bool, true, false, cond, ◌&&◌, ◌||◌, eqb, ltb, leb, ◌⊎◌, ◌↔◌, inl, inr, ⊎_elim, refl, ap, ap₂, sym, subst, ◌∙◌, arith, true≢false, length-append, le_trans}
+use Rattle.std.proofs.Common.{◌≡◌, ℕ, zero, suc, ◌+◌, ◌-◌, ◌<◌, ◌≤◌, List, [], ◌∷◌, ◌++◌, map, flat_map, length, filter, true, ◌⊎◌, inl, inr, refl, ap, sym, arith, true≢false, length-append}
 use Rattle.std.proofs.lemmas.Bool.Decides.{nat_tests}
-use mathlib.Core.Path.{fun_ext}
 use Rattle.om_ring.specs.Members.{In}
-use Rattle.om_model.specs.Order.{Rising, rising_of}
+use Rattle.om_model.specs.Order.{rising_of}
 use Rattle.om_model.specs.Tree.{Tree, Branches, legs, legs_all, count, tree_lt}
 use Rattle.om_model.specs.Tree.Tree.{leaf, join}
 use Rattle.om_model.specs.Tree.Branches.{none, and}
-use Rattle.om_model.specs.Theory.{Theory, Scattering}
-use Rattle.om_model.specs.Diagram.{upto, times_in, all_in, same_numbers, field_of, fields_of, in_order, fits, fits_all, is_diagram, AreDiagrams}
+use Rattle.om_model.specs.Theory.{Scattering}
+use Rattle.om_model.specs.Diagram.{upto, same_numbers, fits, fits_all, is_diagram, AreDiagrams}
 use Rattle.om_model.proofs.Membership.{in_left, in_right, in_map, in_flat_map, in_filter}
 use Rattle.om_model.proofs.Counting.{both, same_length, total}
 use Rattle.om_model.proofs.Rising.{rising_unique, rising_of_rising, in_rising_of}

@@ -6,3 +6,10 @@ pub mod AllDiagrams
 pub mod Contraction
 pub mod SetNumbers
 pub mod OneAnswer
+pub mod ScalarRulesLemmas
+mod Tokens
+mod Legs
+mod FieldsNamed
+mod Syntax
+mod RuleOrder
+mod VertexRules

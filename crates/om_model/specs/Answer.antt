@@ -1,10 +1,10 @@
 -- The answer to an event.
-use Rattle.std.specs.Prelude.{◌≡◌, ℕ, List, [], ◌∷◌, map, filter, Bool, false, not, ◌&&◌, ◌||◌}
+use Rattle.std.specs.Prelude.{◌≡◌, ℕ, List, map, filter, Bool, false, not, ◌&&◌}
 use Rattle.om_ring.specs.Members.{In}
 use Rattle.om_ring.specs.Ops.{Ops}
 use Rattle.om_ring.specs.Sums.{sum_over}
 use Rattle.om_model.specs.Order.{numbers_lt, rising_of}
-use Rattle.om_model.specs.Theory.{Theory, Scattering}
+use Rattle.om_model.specs.Theory.{Scattering}
 use Rattle.om_model.specs.Tree.{Tree}
 use Rattle.om_model.specs.Diagram.{AreDiagrams}
 use Rattle.om_model.specs.Event.{Event, Balances}

@@ -14,3 +14,8 @@ pub mod Answer
 pub mod Laws
 pub mod Name
 pub mod Model
+pub mod Entries
+pub mod Rules
+pub mod ScalarRules
+pub mod ModelTable
+pub mod ProcessText

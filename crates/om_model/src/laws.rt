@@ -8,6 +8,9 @@ ghost use Rattle.om_model.specs.Laws.{OneAnswer};
 ghost use Rattle.om_model.specs.WaveFunction.{SumIsContraction};
 ghost use Rattle.om_model.specs.Event.{Event};
 ghost use Rattle.om_model.specs.FeynmanRules.{FeynmanRules};
+ghost use Rattle.om_model.specs.FeynmanRules.{Table};
+ghost use Rattle.om_model.specs.Entries.{feynman_rules};
+ghost use Rattle.om_model.specs.ScalarRules.{IsScalar, HasNoMoreFactors, scalar_rules};
 
 use om_ring::Ring;
 
@@ -31,6 +34,13 @@ pub fn anti_of_anti()
 /// The sum over all assignments of indices at a vertex is the contraction of the wave functions that meet there.
 pub fn sum_is_contraction<R: Ring>(ring: &R)
     ensures { (s : Scattering) (r : FeynmanRules R.E) (e : Event R.E) → SumIsContraction (R.ops ring.now) s r e }
+{
+    let _ring = ring;
+}
+
+/// A model of scalars alone has the rules of scalars.
+pub fn scalars_have_scalar_rules<R: Ring>(ring: &R)
+    ensures { (m : ModelOf) (t : Table R.E) → IsScalar m → HasNoMoreFactors m t → feynman_rules (R.ops ring.now) m t ≡ scalar_rules (R.ops ring.now) t }
 {
     let _ring = ring;
 }

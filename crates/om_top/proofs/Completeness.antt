@@ -2,7 +2,8 @@
 use Rattle.std.proofs.Common.{◌≡◌, ℕ, List, [], ◌∷◌, ◌++◌, length, map, Option, Some, None, IfSome, refl, ap, sym, ◌∙◌, subst, arith, inl, inr, append-nil}
 use Rattle.om_ring.specs.Ops.{Ops}
 use Rattle.om_model.specs.Answer.{Answer, IsAnswer}
-use Rattle.om_model.specs.FeynmanRules.{scalar_rules, unit_table}
+use Rattle.om_model.specs.Entries.{feynman_rules}
+use Rattle.om_model.specs.ModelTable.{model_table}
 use Rattle.om_model.specs.Lines.{no_lines}
 use Rattle.om_model.specs.Diagram.{AreDiagrams}
 use Rattle.om_model.specs.Model.{scattering_of}
@@ -72,7 +73,7 @@ module _ {E : Type 0} (o : Ops E) (show : E → List ℕ) (outside : Outside) (t
       let same : answered.legs ≡ legs = same_legs (length p.legs) bytes answered.legs legs (omega arith) read event in
       record {
         answer = a;
-        is_answer = subst (λ (ls : List LegNumbers). IsAnswer o (scattering_of phi3 p) (scalar_rules o (unit_table o)) no_lines (event_of o (map (incoming_of o) ls)) a) same answered.is_answer;
+        is_answer = subst (λ (ls : List LegNumbers). IsAnswer o (scattering_of phi3 p) (feynman_rules o phi3 (model_table o phi3)) no_lines (event_of o (map (incoming_of o) ls)) a) same answered.is_answer;
         gained = gained;
       }
 

@@ -2,12 +2,14 @@
 use Rattle.std.proofs.Common.{◌≡◌, ℕ, ◌≤◌, true, false, List, [], ◌∷◌, length, map, Result, Ok, Err, refl, ap, sym, ◌∙◌, arith, inl, inr, subst, length-append}
 use Rattle.std.specs.Prelude.{replicate}
 use Rattle.std.proofs.lemmas.List.{length-replicate}
-use Rattle.om_ring.specs.Ops.{Ops}
+use Rattle.om_ring.specs.Ops.{Ops, Laws}
 use Rattle.om_ring.specs.Members.{In}
 use Rattle.om_model.specs.Theory.{Scattering}
 use Rattle.om_model.specs.Tree.{Tree}
 use Rattle.om_model.specs.Diagram.{AreDiagrams, is_diagram}
-use Rattle.om_model.specs.FeynmanRules.{scalar_rules, unit_table}
+use Rattle.om_model.specs.Entries.{feynman_rules}
+use Rattle.om_model.specs.ModelTable.{model_table}
+use Rattle.om_model.specs.ScalarRules.{scalar_rules}
 use Rattle.om_model.specs.Lines.{no_lines}
 use Rattle.om_model.specs.Model.{scattering_of}
 use Rattle.om_model.specs.Answer.{Answer, IsAnswer}
@@ -22,13 +24,14 @@ use Rattle.om_top.specs.Incoming.{incoming_of}
 use Rattle.om_top.specs.Loads.{HoldsModel}
 use Rattle.om_top.specs.Numbers.{unit_numbers}
 use Rattle.om_top.specs.Outside.{Side, IsUntouched, Gave}
+use Rattle.om_top.specs.Phi3.{phi3}
 use Rattle.om_top.specs.ProcessText.{SaysProcess}
 use Rattle.om_top.specs.Stages.{Writes, ReadsInput, ReadsNoEvent, ReadsLegs}
 use Rattle.om_top.specs.declared.ending.Ending.{Ending}
 use Rattle.om_top.specs.declared.ending.Ending.TheVariants.{Done, Usage, ModelNotBuilt, ProcessNotBuilt, EventsNotBuilt, FileFault, InputFault, OutFault, NoMemory}
 use Rattle.om_top.specs.declared.event.Incoming.{Incoming}
 use Rattle.om_top.proofs.SameRules.{same_answer}
-use Rattle.om_top.proofs.UnitRules.{unit_rules}
+use Rattle.om_top.proofs.UnitRules.{phi3_rules}
 
 -- no tree is a diagram
 abbrev pub NoDiagram : Scattering → Type 0
@@ -87,27 +90,27 @@ module _ {E : Type 0} (o : Ops E) (show : E → List ℕ) (m : Model) (p : Proce
   without_event event OutFault some quiet (given, gave, r) = absurd r
   without_event event NoMemory some quiet (given, gave, r) = absurd r
 
-  answered : (event : List (Incoming E)) (given : List ℕ) (a : Answer E) → ReadsLegs o (length p.legs) input given event → IsAnswer o s (scalar_rules o (table_of o (unit_numbers o m))) no_lines (event_of o event) a → IsAnswered o show m s given a
-  answered event given a r h = record {
+  answered : Laws o → m ≡ phi3 → (event : List (Incoming E)) (given : List ℕ) (a : Answer E) → ReadsLegs o (length p.legs) input given event → IsAnswer o s (scalar_rules o (table_of o (unit_numbers o m))) no_lines (event_of o event) a → IsAnswered o show m s given a
+  answered l built event given a r h = record {
     legs = r.legs;
     is_event = r.is_event;
     is_answer =
-        subst (λ (event : List (Incoming E)). IsAnswer o s (scalar_rules o (unit_table o)) no_lines (event_of o event) a) r.places
-        (same_answer o s (scalar_rules o (table_of o (unit_numbers o m))) (scalar_rules o (unit_table o)) (event_of o event) (unit_rules o m) a h);
+        subst (λ (event : List (Incoming E)). IsAnswer o s (feynman_rules o m (model_table o m)) no_lines (event_of o event) a) r.places
+        (same_answer o s (scalar_rules o (table_of o (unit_numbers o m))) (feynman_rules o m (model_table o m)) (event_of o event) (phi3_rules o l m built) a h);
   }
 
   -- the answer to the event was written
-  pub with_answer : (event : List (Incoming E)) (ending : Ending) (a : Answer E) → (diagrams s ≡ [] → ⊥) → ReadsInput o (length p.legs) input event (Ok tt)
+  pub with_answer : Laws o → m ≡ phi3 → (event : List (Incoming E)) (ending : Ending) (a : Answer E) → (diagrams s ≡ [] → ⊥) → ReadsInput o (length p.legs) input event (Ok tt)
       → IsAnswer o s (scalar_rules o (table_of o (unit_numbers o m))) no_lines (event_of o event) a → Writes out (answer_text show m 1 a) ending → EvaluatesProcess o show m p input out ending
-  with_answer event Done a some (given, gave, r) h w = evaluates Done some (given, gave, (r.done, a, answered event given a r h, w))
-  with_answer event OutFault a some (given, gave, r) h w = evaluates OutFault some (given, gave, (w.0, r.done, a, answered event given a r h, w.1))
-  with_answer event Usage a some r h w = absurd w
-  with_answer event ModelNotBuilt a some r h w = absurd w
-  with_answer event ProcessNotBuilt a some r h w = absurd w
-  with_answer event EventsNotBuilt a some r h w = absurd w
-  with_answer event FileFault a some r h w = absurd w
-  with_answer event InputFault a some r h w = absurd w
-  with_answer event NoMemory a some r h w = absurd w
+  with_answer l built event Done a some (given, gave, r) h w = evaluates Done some (given, gave, (r.done, a, answered l built event given a r h, w))
+  with_answer l built event OutFault a some (given, gave, r) h w = evaluates OutFault some (given, gave, (w.0, r.done, a, answered l built event given a r h, w.1))
+  with_answer l built event Usage a some r h w = absurd w
+  with_answer l built event ModelNotBuilt a some r h w = absurd w
+  with_answer l built event ProcessNotBuilt a some r h w = absurd w
+  with_answer l built event EventsNotBuilt a some r h w = absurd w
+  with_answer l built event FileFault a some r h w = absurd w
+  with_answer l built event InputFault a some r h w = absurd w
+  with_answer l built event NoMemory a some r h w = absurd w
 
 -- a run with a model and a process
 module _ {E : Type 0} (o : Ops E) (show : E → List ℕ) (m : Model) (p : Process) (file : Side) (text : List ℕ) (input out : Side) where

@@ -2,7 +2,8 @@
 use Rattle.std.specs.Prelude.{ℕ, ◌≡◌, ◌⊎◌, List, length, map, Option, Some}
 use Rattle.om_ring.specs.Ops.{Ops}
 use Rattle.om_model.specs.Answer.{Answer, IsAnswer}
-use Rattle.om_model.specs.FeynmanRules.{scalar_rules, unit_table}
+use Rattle.om_model.specs.Entries.{feynman_rules}
+use Rattle.om_model.specs.ModelTable.{model_table}
 use Rattle.om_model.specs.Lines.{no_lines}
 use Rattle.om_model.specs.Model.{scattering_of}
 use Rattle.om_model.specs.declared.process.Process.{Process}
@@ -23,7 +24,7 @@ module _ {E : Type 0} (o : Ops E) (show : E → List ℕ) where
   -- the output gained the text of the answer to an event
   pub record GainsAnswer (outside : Outside) (p : Process) (legs : List LegNumbers) : Type 0 where
     pub answer : Answer E
-    pub is_answer : IsAnswer o (scattering_of phi3 p) (scalar_rules o (unit_table o)) no_lines (event_of o (map (incoming_of o) legs)) answer
+    pub is_answer : IsAnswer o (scattering_of phi3 p) (feynman_rules o phi3 (model_table o phi3)) no_lines (event_of o (map (incoming_of o) legs)) answer
     pub gained : Gained outside.out (answer_text show phi3 1 answer)
 
   -- where the file is that of the model, the text is that of a process, the input is one event and no count of faults rose,

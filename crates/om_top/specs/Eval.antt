@@ -3,7 +3,8 @@ use Rattle.std.specs.Prelude.{ℕ, ◌≡◌, ◌⊎◌, List, [], ◌∷◌, �
 use Rattle.om_ring.specs.Ops.{Ops}
 use Rattle.om_model.specs.Answer.{Answer, IsAnswer}
 use Rattle.om_model.specs.Diagram.{AreDiagrams}
-use Rattle.om_model.specs.FeynmanRules.{scalar_rules, unit_table}
+use Rattle.om_model.specs.Entries.{feynman_rules}
+use Rattle.om_model.specs.ModelTable.{model_table}
 use Rattle.om_model.specs.Lines.{no_lines}
 use Rattle.om_model.specs.Model.{scattering_of}
 use Rattle.om_model.specs.Theory.{Scattering}
@@ -49,7 +50,7 @@ module _ {E : Type 0} (o : Ops E) (show : E → List ℕ) (m : Model) (s : Scatt
   pub record IsAnswered (given : List ℕ) (a : Answer E) : Type 0 where
     pub legs : List LegNumbers
     pub is_event : IsEvent s.size given legs
-    pub is_answer : IsAnswer o s (scalar_rules o (unit_table o)) no_lines (event_of o (map (incoming_of o) legs)) a
+    pub is_answer : IsAnswer o s (feynman_rules o m (model_table o m)) no_lines (event_of o (map (incoming_of o) legs)) a
 
   -- with a diagram: the input gave these bytes, and the output gained the text of the answer
   abbrev pub AnswersEvent : Side → Side → List ℕ → Ending → Type 0

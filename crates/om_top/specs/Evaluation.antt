@@ -4,7 +4,8 @@ use Rattle.std.specs.List.{fold}
 use Rattle.om_ring.specs.Ops.{Ops}
 use Rattle.om_ring.specs.Sums.{sum_over, product_list}
 use Rattle.om_model.specs.Event.{Event}
-use Rattle.om_model.specs.FeynmanRules.{FeynmanRules, scalar_rules}
+use Rattle.om_model.specs.FeynmanRules.{FeynmanRules}
+use Rattle.om_model.specs.ScalarRules.{scalar_rules}
 use Rattle.om_model.specs.Propagator.{EdgeName, denominator, value_or_zero, name_lt}
 use Rattle.om_top.specs.declared.diagrams.Diagram.{Diagram}
 use Rattle.om_top.specs.declared.event.Table.{Table as Numbers}

@@ -1,10 +1,11 @@
 //! `eval` answers an event.
-ghost use Rattle.std.specs.Prelude.{◌≤◌, All, length};
+ghost use Rattle.std.specs.Prelude.{◌≡◌, ◌≤◌, All, length};
 ghost use Rattle.om_top.specs.AnswerOf.{answer_of};
 ghost use Rattle.om_top.specs.AnswerText.{answer_text, IsShort};
 ghost use Rattle.om_top.specs.Eval.{EvalRan, EvaluatesProcess};
 ghost use Rattle.om_top.specs.Incoming.{HasPlaces};
 ghost use Rattle.om_top.specs.Outside.{side};
+ghost use Rattle.om_top.specs.Phi3.{phi3};
 ghost use Rattle.om_top.specs.Stages.{ReadsInput, Writes};
 
 use crate::answer::Answer;
@@ -61,7 +62,8 @@ fn eval_process<R: Ring<Mark = L>, S: Source, O: Sink, L>(
     out: &mut O,
     steps: &mut Steps<L>,
 ) -> Ending
-    requires { length process.now.legs ≤ 5 }
+    requires few { length process.now.legs ≤ 5 }
+    requires model { model.now ≡ phi3 }
     ensures { EvaluatesProcess (R.ops ring.now) (R.text ring.now) model.now process.now (side S.left S.faults input.old input.new) (side O.written O.faults out.old out.new) result }
 {
     let Ok(mut prepared) = prepare(alloc, ring, model, process) else {

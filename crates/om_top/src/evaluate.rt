@@ -7,7 +7,7 @@ ghost use Rattle.om_model.specs.Tree.{Tree};
 ghost use Rattle.om_model.specs.Diagram.{is_diagram};
 ghost use Rattle.om_model.specs.Event.{momentum_of};
 ghost use Rattle.om_model.specs.Propagator.{difference, square};
-ghost use Rattle.om_model.specs.FeynmanRules.{scalar_rules};
+ghost use Rattle.om_model.specs.ScalarRules.{scalar_rules};
 ghost use Rattle.om_model.specs.Lines.{no_lines};
 ghost use Rattle.om_model.specs.Answer.{IsAnswer};
 ghost use Rattle.om_top.specs.AnswerOf.{answer_of};

@@ -1,13 +1,15 @@
 //! The one model that is built so far.
-ghost use Rattle.std.specs.Prelude.{◌≡◌, IfOk};
+ghost use Rattle.std.specs.Prelude.{◌≡◌, [], ◌∷◌, IfOk};
 ghost use Rattle.om_top.specs.Loads.{LoadsModel, ReadsModel};
 ghost use Rattle.om_top.specs.Outside.{side};
-ghost use Rattle.om_top.specs.Phi3.{phi3};
+ghost use Rattle.om_top.specs.Phi3.{phi3, whole_number};
 
 use crate::ending::Ending;
+use om_colour::Colour;
 use om_io::{FileFault, Folder, read_file};
-use om_model::{Model, Name, Particle, Vertex};
-use om_ring::{List, NoMemory};
+use om_lorentz::{Spin, Structure};
+use om_model::{Model, Name, Particle, Product, Vertex};
+use om_ring::{List, NoMemory, Numeral};
 use std::alloc::Global;
 
 /// No model file has more bytes.
@@ -62,16 +64,49 @@ fn scalar_cubed(alloc: Global) -> Result<Model, NoMemory>
     particles.push(Particle {
         name: Name::read(b"phi").unwrap(),
         anti: Name::read(b"phi").unwrap(),
+        spin: Spin::Scalar,
+        mass: product(alloc, 0)?,
+        width: product(alloc, 0)?,
+        norm: product(alloc, 1)?,
+        colour: Colour::One,
     })?;
     let mut fields = List::new(alloc);
     fields.push(0)?;
     fields.push(0)?;
     fields.push(0)?;
+    let mut factors = List::new(alloc);
+    factors.push(product(alloc, 1)?)?;
     let mut vertices = List::new(alloc);
-    vertices.push(Vertex { fields })?;
+    vertices.push(Vertex {
+        structure: Structure::Sss,
+        fields,
+        factors,
+        order: 1,
+    })?;
     Ok(Model {
         name: Name::read(b"phi3").unwrap(),
         particles,
         vertices,
     })
+}
+
+/// The product of one whole number.
+fn product(alloc: Global, number: u64) -> Result<Product, NoMemory>
+    ensures { IfOk result (λ p. p ≡ whole_number number ∷ []) }
+{
+    let mut product = List::new(alloc);
+    product.push(whole(number))?;
+    Ok(product)
+}
+
+/// The numeral of a whole number.
+fn whole(number: u64) -> Numeral
+    ensures { result ≡ whole_number number }
+{
+    Numeral {
+        neg: false,
+        num: number,
+        den: 1,
+        imag: false,
+    }
 }

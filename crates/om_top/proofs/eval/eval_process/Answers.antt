@@ -1,5 +1,6 @@
 use Rattle.std.proofs.Common.{◌≡◌, ◌∙◌, List, length, vec_len, Result, Ok, Err, ap, sym, refl, subst, arith}
-use Rattle.om_model.specs.FeynmanRules.{scalar_rules}
+use Rattle.om_ring.specs.Ops.{laws_from}
+use Rattle.om_model.specs.ScalarRules.{scalar_rules}
 use Rattle.om_model.specs.Lines.{no_lines}
 use Rattle.om_model.specs.Answer.{IsAnswer}
 use Rattle.om_model.specs.Model.{scattering_of}
@@ -38,7 +39,7 @@ pub write_answer-requires : goal.write_answer-requires
 write_answer-requires g c =
     let o = g.R.Ring.ops c.args.ring.now in
     let s = scattering_of c.args.model.now c.args.process.now in
-    let few = c.requires in
+    let few = c.requires.few in
     short_answer o s (scalar_rules o (table_of o c.in-Ok.prepared.numbers)) no_lines (event_of o c.deref.result.now) (answer_of c.answer-answer.result) (omega arith)
     (c.answer-answer.ensures s c.in-Ok.ensures.diagrams)
 
@@ -58,4 +59,5 @@ returns g c =
     subst (λ (n : _). IsAnswer o s (scalar_rules o (table_of o n)) no_lines (event_of o c.deref.result.now) a) c.in-Ok.ensures.numbers given in
     let answer : IsAnswer o s (scalar_rules o (table_of o (unit_numbers o c.args.model.now))) no_lines (event_of o c.read_input.new.event) a =
     subst (λ (e : List (Incoming _)). IsAnswer o s (scalar_rules o (table_of o (unit_numbers o c.args.model.now))) no_lines (event_of o e) a) places at_units in
-    with_answer o (g.R.Ring.text c.args.ring.now) c.args.model.now c.args.process.now input out c.read_input.new.event c.write_answer.result a (some_diagram s (λ never. let so = (c.if-is_empty.ensures s c.in-Ok.ensures.diagrams).1 never in cc)) read answer c.write_answer.ensures
+    let l = laws_from (g.R.Ring.element c.args.ring.now) o (g.met.R.Ring.known c.args.ring.now) (g.met.R.Ring.laws c.args.ring.now) in
+    with_answer o (g.R.Ring.text c.args.ring.now) c.args.model.now c.args.process.now input out l c.requires.model c.read_input.new.event c.write_answer.result a (some_diagram s (λ never. let so = (c.if-is_empty.ensures s c.in-Ok.ensures.diagrams).1 never in cc)) read answer c.write_answer.ensures
