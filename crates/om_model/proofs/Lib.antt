@@ -13,3 +13,9 @@ mod FieldsNamed
 mod Syntax
 mod RuleOrder
 mod VertexRules
+mod SymmetrySlots
+mod SymmetryVectors
+mod SymmetryEntries
+mod SymmetryChoices
+mod SymmetryAccepted
+mod SymmetryLaw

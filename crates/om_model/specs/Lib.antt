@@ -19,3 +19,5 @@ pub mod Rules
 pub mod ScalarRules
 pub mod ModelTable
 pub mod ProcessText
+pub mod Symmetry
+pub mod Words

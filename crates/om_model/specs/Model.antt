@@ -5,7 +5,7 @@ use Rattle.om_lorentz.specs.declared.structures.Spin.{Spin}
 use Rattle.om_lorentz.specs.declared.structures.Spin.TheVariants.{Scalar}
 use Rattle.om_colour.specs.declared.Colour.{Colour}
 use Rattle.om_colour.specs.declared.Colour.TheVariants.{One, Three, AntiThree}
-use Rattle.om_colour.specs.Table.{Row, row_of}
+use Rattle.om_colour.specs.Table.{Row, row_of, choice_count}
 use Rattle.om_model.specs.Theory.{Theory, Scattering}
 use Rattle.om_model.specs.declared.model.Particle.{Particle}
 use Rattle.om_model.specs.declared.model.Vertex.{Vertex}
@@ -59,13 +59,22 @@ fields_of_vertex (Some v) = v.fields
 abbrev pub colour_row : List Particle → List ℕ → Option Row
 colour_row particles fields = row_of (map (colour_of_field particles) fields)
 
--- field numbers count from 0, a row of the particles has two of them; vertex rows are those of the model, with one colour choice each
+-- in how many ways colour lines can go through a vertex whose colours are in this row of the table
+abbrev pub choices_in : Option Row → ℕ
+choices_in None = 0
+choices_in (Some row) = choice_count row
+
+-- the row of the colour table that a vertex has
+abbrev pub colours_of_vertex : List Particle → Option Vertex → Option Row
+colours_of_vertex particles v = colour_row particles (fields_of_vertex v)
+
+-- field numbers count from 0, a row of the particles has two of them; vertex rows are those of the model, with the choices of the colours of their slots
 abbrev pub theory_of : Model → Theory
 theory_of m = record {
   fields = 2 * length m.particles;
   vertices = length m.vertices;
   slots = λ v. fields_of_vertex (slice_get m.vertices v);
-  choices = λ v. 1;
+  choices = λ v. choices_in (colours_of_vertex m.particles (slice_get m.vertices v));
   anti = anti_field m.particles;
 }
 

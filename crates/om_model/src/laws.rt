@@ -11,6 +11,7 @@ ghost use Rattle.om_model.specs.FeynmanRules.{FeynmanRules};
 ghost use Rattle.om_model.specs.FeynmanRules.{Table};
 ghost use Rattle.om_model.specs.Entries.{feynman_rules};
 ghost use Rattle.om_model.specs.ScalarRules.{IsScalar, HasNoMoreFactors, scalar_rules};
+ghost use Rattle.om_model.specs.Symmetry.{ExchangeSymmetry};
 
 use om_ring::Ring;
 
@@ -41,6 +42,14 @@ pub fn sum_is_contraction<R: Ring>(ring: &R)
 /// A model of scalars alone has the rules of scalars.
 pub fn scalars_have_scalar_rules<R: Ring>(ring: &R)
     ensures { (m : ModelOf) (t : Table R.E) → IsScalar m → HasNoMoreFactors m t → feynman_rules (R.ops ring.now) m t ≡ scalar_rules (R.ops ring.now) t }
+{
+    let _ring = ring;
+}
+
+/// What enters two slots with equal fields of a vertex of an accepted model may change places: the entry of each colour choice
+/// is then the entry of the choice that the exchange makes of it.
+pub fn exchange_symmetry<R: Ring>(ring: &R)
+    ensures { ExchangeSymmetry (R.ops ring.now) }
 {
     let _ring = ring;
 }

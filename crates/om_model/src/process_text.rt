@@ -153,8 +153,9 @@ fn named_legs(alloc: Global, particles: &[Particle], text: &[u8]) -> Result<List
     Ok(legs)
 }
 
-// The field that a name means: of the first particle that has it as its name or its antiname.
-fn field_named(particles: &[Particle], name: &[u8]) -> Option<u16>
+/// The field that a name means: that of the first particle that has it as its name or its antiname. None exactly where no
+/// particle has.
+pub fn field_named(particles: &[Particle], name: &[u8]) -> Option<u16>
     requires { length particles.now ≤ 32768 }
     ensures { result ≡ field_named_of particles.now name.now }
 {

@@ -1,5 +1,5 @@
 //! What a ring is.
-ghost use Rattle.std.specs.Prelude.{◌≡◌, ℕ, ◌+◌, ◌≤◌, IsTrue, ◌↔◌, List, ◌++◌, length};
+ghost use Rattle.std.specs.Prelude.{◌≡◌, ℕ, ◌+◌, ◌≤◌, ◌≢◌, IsTrue, ◌↔◌, ◌⊎◌, List, ◌++◌, length};
 ghost use Rattle.om_ring.specs.Ops.{Ops, RingLaws, number_of};
 
 use crate::line::Line;
@@ -83,6 +83,9 @@ pub trait Ring {
 
     // The operations are those of a commutative ring, and an inverse is given exactly where there is one.
     ghost laws: { (r : Self) → RingLaws (element r) (ops r) };
+
+    // Two values are equal or not.
+    ghost decided: { (r : Self) (x y : Self.E) → (x ≡ y) ⊎ (x ≢ y) };
 
     // No call is free.
     ghost costs: { (r : Self) → 1 ≤ cost r };

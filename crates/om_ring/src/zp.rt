@@ -2,7 +2,7 @@
 ghost use Rattle.std.specs.Prelude.{decimal};
 ghost use Rattle.std.proofs.Common.{arith};
 ghost use Rattle.om_ring.specs.ZpOps.{zp, IsElement};
-ghost use Rattle.om_ring.specs.ZpLaws.{zp_laws};
+ghost use Rattle.om_ring.specs.ZpLaws.{elem_decided, zp_laws};
 
 use crate::elem::Elem;
 use crate::line::Line;
@@ -37,6 +37,8 @@ impl Ring for Zp {
     ghost known = { λ _ x. x.below };
 
     ghost laws = { λ _. zp_laws };
+
+    ghost decided = { λ _ x y. elem_decided x y };
 
     ghost costs = { λ _. Prim.omega arith };
 

@@ -1,169 +1,199 @@
 -- When each refusal and each fault comes, by cases on how a run ended.
-use Rattle.std.proofs.Common.{◌≡◌, ◌≢◌, ℕ, Bool, true, false, List, [], ◌∷◌, ◌++◌, length, Option, Some, None, IfSome, refl, ap, sym, ◌∙◌, subst, arith, inl, inr}
+use Rattle.std.proofs.Common.{◌≡◌, ◌≢◌, ℕ, ◌≤◌, List, [], ◌∷◌, length, Some, None, refl, ap, sym, subst, arith, inl, inr}
+use Rattle.std.specs.Prelude.{◌↔◌}
 use Rattle.om_ring.specs.Ops.{Ops}
-use Rattle.om_model.specs.Model.{scattering_of}
 use Rattle.om_model.specs.Diagram.{AreDiagrams}
+use Rattle.om_model.specs.Model.{scattering_of}
+use Rattle.om_model.specs.Theory.{Scattering}
 use Rattle.om_model.specs.Tree.{Tree}
 use Rattle.om_model.specs.declared.model.Model.{Model}
 use Rattle.om_model.specs.declared.process.Process.{Process}
-use Rattle.om_top.specs.Causes.{UsageCause, ModelCause, ProcessCause, EventsCause, FaultCauses, QuietEndings, SilentEndings, IsAccepted}
-use Rattle.om_top.specs.Command.{Command, eval}
-use Rattle.om_top.specs.Eval.{Evaluates, EvaluatesBy, AnswersEvent, IsNoEvent, IsRefused}
+use Rattle.om_top.specs.Causes.{UsageCause, ModelCause, ProcessCause, EventsCause, FaultCauses, QuietEndings, SilentEndings, CheckEndings, HasDiagram, IsNotBuilt, RefusesModel, RefusesProcess}
+use Rattle.om_top.specs.Command.{Command, check, eval}
+use Rattle.om_top.specs.Eval.{Evaluates, EvaluatesBy, IsNoEvent}
+use Rattle.om_top.specs.EvalRan.{WithScalars, WithProcess}
 use Rattle.om_top.specs.EventText.{IsEvent}
-use Rattle.om_top.specs.Loads.{HoldsModel}
-use Rattle.om_top.specs.Outside.{Outside, Side, Failed, Gave, IsUntouched, IsQuiet}
-use Rattle.om_top.specs.Phi3.{phi3, phi3_text, SaysModel}
-use Rattle.om_top.specs.ProcessText.{SaysProcess}
+use Rattle.om_top.specs.Loads.{HoldsModel, IsModelFile, SaysFault, SaysProcess, most_legs}
+use Rattle.om_top.specs.Message.{status_of}
+use Rattle.om_top.specs.Outside.{Outside, Side, Failed, IsUntouched}
 use Rattle.om_top.specs.Ran.{Ran}
 use Rattle.om_top.specs.declared.ending.Ending.{Ending}
-use Rattle.om_top.specs.declared.ending.Ending.TheVariants.{Done, Usage, ModelNotBuilt, ProcessNotBuilt, EventsNotBuilt, FileFault, InputFault, OutFault, NoMemory}
-use Rattle.om_top.proofs.Completeness.{told_file, rest_of, all_given, never_refused}
-use Rattle.om_top.proofs.Evaluations.{few_legs}
-use Rattle.om_top.proofs.OneProcess.{one_process}
-use Rattle.om_top.proofs.SomeDiagram.{has_diagram}
+use Rattle.om_top.specs.declared.ending.Ending.TheVariants.{Done, Usage, ModelTooLong, ModelFault, ModelNotBuilt, ProcessFault, ProcessNotBuilt, EventsNotBuilt, FileFault, InputFault, OutFault, NoMemory}
+use Rattle.om_top.proofs.Accepted.{evaluated, holds_file, one_process, told_file, told_long, with_model, with_scalars}
+use Rattle.om_top.proofs.Completeness.{all_given, never_refused, rest_of}
+use Rattle.om_top.proofs.Files.{no_fault, one_model}
 
--- the file that a run took for the model is that of the model
-own_file : (told : Option (List ℕ)) (file : List ℕ) (m : Model) → told ≡ Some file → (bytes : List ℕ) × IfSome told (λ b. b ≡ bytes) × SaysModel bytes m → file ≡ phi3_text
-own_file told file m e (bytes, holds, says) = sym (told_file told file bytes e holds) ∙ says.spelled
+-- the status is another one
+other_status : {P : Type 0} {a b : ℕ} → (a ≡ b → ⊥) → (P → ⊥) → (a ≡ b) ↔ P
+other_status other never = (λ e. absurd (other e), λ h. absurd (never h))
 
 module _ {E : Type 0} (o : Ops E) (show : E → List ℕ) where
   pub usage_cause : UsageCause o show
   usage_cause None outside Usage ran = (λ e. refl, λ e. refl)
-  usage_cause None outside Done ran = absurd ran
-  usage_cause None outside ModelNotBuilt ran = absurd ran
-  usage_cause None outside ProcessNotBuilt ran = absurd ran
-  usage_cause None outside EventsNotBuilt ran = absurd ran
-  usage_cause None outside FileFault ran = absurd ran
-  usage_cause None outside InputFault ran = absurd ran
-  usage_cause None outside OutFault ran = absurd ran
-  usage_cause None outside NoMemory ran = absurd ran
+  usage_cause None outside ending ran = absurd ran
+  usage_cause (Some (check name)) outside Usage (quiet, ran) = absurd ran
+  usage_cause (Some (check name)) outside ending ran = (λ e. absurd (omega arith), λ e. cc)
   usage_cause (Some (eval name text)) outside Usage ran = absurd ran
-  usage_cause (Some (eval name text)) outside Done ran = (λ e. cc, λ e. cc)
-  usage_cause (Some (eval name text)) outside ModelNotBuilt ran = (λ e. cc, λ e. cc)
-  usage_cause (Some (eval name text)) outside ProcessNotBuilt ran = (λ e. cc, λ e. cc)
-  usage_cause (Some (eval name text)) outside EventsNotBuilt ran = (λ e. cc, λ e. cc)
-  usage_cause (Some (eval name text)) outside FileFault ran = (λ e. cc, λ e. cc)
-  usage_cause (Some (eval name text)) outside InputFault ran = (λ e. cc, λ e. cc)
-  usage_cause (Some (eval name text)) outside OutFault ran = (λ e. cc, λ e. cc)
-  usage_cause (Some (eval name text)) outside NoMemory ran = (λ e. cc, λ e. cc)
+  usage_cause (Some (eval name text)) outside ending ran = (λ e. absurd (omega arith), λ e. cc)
+
+  -- a file that holds a model which the command can be done with is not refused
+  not_refused : (command : Command) (file : Side) (bytes : List ℕ) (m : Model) → file.before ≡ Some bytes → HoldsModel o file m → (IsNotBuilt command m → ⊥) → RefusesModel o command bytes → ⊥
+  not_refused command file bytes m told holds built refused =
+      let is_file : IsModelFile o bytes m = holds_file o file bytes told m holds in
+      elim refused [
+        | inl long ↦ (let few = is_file.within in absurd (omega arith))
+        | inr (inl (fault, says)) ↦ no_fault o bytes m fault is_file.says says
+        | inr (inr (n, says, other)) ↦ built (subst (λ (x : Model). IsNotBuilt command x) (one_model o bytes n m says is_file.says) other)
+      ]
+
+  -- a model of `check`
+  model_of_check : (name : List ℕ) (outside : Outside) (e : Ending) (file : List ℕ) → Ran o show (Some (check name)) outside e → (outside.file name).before ≡ Some file → ¬ Failed (outside.file name) → e ≢ NoMemory
+      → (status_of e ≡ 3) ↔ RefusesModel o (check name) file
+  model_of_check name outside ModelTooLong file (q, (long, quiet)) told nf nm = (λ e. inl (told_long (outside.file name).before file told long), λ h. refl)
+  model_of_check name outside (ModelFault fault) file (q, ((held, holds, faulty), quiet)) told nf nm =
+      (λ e. inr (inl (fault, subst (λ (t : List ℕ). SaysFault o t fault) (told_file (outside.file name).before file held told holds) faulty.says)), λ h. refl)
+  model_of_check name outside Done file (q, (m, holds, w)) told nf nm = other_status (λ e. omega arith) (not_refused (check name) (outside.file name) file m told holds (λ none. none))
+  model_of_check name outside OutFault file (q, (m, holds, w)) told nf nm = other_status (λ e. omega arith) (not_refused (check name) (outside.file name) file m told holds (λ none. none))
+  model_of_check name outside Usage file (q, ran) told nf nm = absurd ran
+  model_of_check name outside FileFault file (q, (failed, quiet)) told nf nm = absurd (nf failed)
+  model_of_check name outside NoMemory file ran told nf nm = absurd (nm refl)
+  model_of_check name outside e file ran told nf nm = absurd ran.1.2
+
+  -- a model of `eval`
+  model_of_eval : (name text : List ℕ) (outside : Outside) (e : Ending) (file : List ℕ) → Ran o show (Some (eval name text)) outside e → (outside.file name).before ≡ Some file → ¬ Failed (outside.file name) → e ≢ NoMemory
+      → (status_of e ≡ 3) ↔ RefusesModel o (eval name text) file
+  model_of_eval name text outside ModelTooLong file (long, quiet) told nf nm = (λ e. inl (told_long (outside.file name).before file told long), λ h. refl)
+  model_of_eval name text outside (ModelFault fault) file ((held, holds, faulty), quiet) told nf nm =
+      (λ e. inr (inl (fault, subst (λ (t : List ℕ). SaysFault o t fault) (told_file (outside.file name).before file held told holds) faulty.says)), λ h. refl)
+  model_of_eval name text outside ModelNotBuilt file (m, holds, (other, quiet)) told nf nm = (λ e. inr (inr (m, (holds_file o (outside.file name) file told m holds).says, other)), λ h. refl)
+  model_of_eval name text outside Usage file ran told nf nm = absurd ran
+  model_of_eval name text outside FileFault file (failed, quiet) told nf nm = absurd (nf failed)
+  model_of_eval name text outside NoMemory file ran told nf nm = absurd (nm refl)
+  model_of_eval name text outside e file ran told nf nm =
+      other_status (λ e. omega arith) (not_refused (eval name text) (outside.file name) file ran.0 told ran.1 (λ other. other ran.2.0))
 
   pub model_cause : ModelCause o show
-  model_cause outside ModelNotBuilt name text file ((bytes, holds, other), quiet) f nf nm =
-      (λ e same. other phi3 (record { spelled = told_file (outside.file name).before file bytes f holds ∙ same; is_phi3 = refl }), λ h. refl)
-  model_cause outside Usage name text file ran f nf nm = absurd ran
-  model_cause outside FileFault name text file ran f nf nm = absurd (nf ran.0)
-  model_cause outside NoMemory name text file ran f nf nm = absurd (nm refl)
-  model_cause outside Done name text file (m, holds, h) f nf nm = (λ e. cc, λ other. absurd (other (own_file (outside.file name).before file m f holds)))
-  model_cause outside ProcessNotBuilt name text file (m, holds, h) f nf nm = (λ e. cc, λ other. absurd (other (own_file (outside.file name).before file m f holds)))
-  model_cause outside EventsNotBuilt name text file (m, holds, h) f nf nm = (λ e. cc, λ other. absurd (other (own_file (outside.file name).before file m f holds)))
-  model_cause outside InputFault name text file (m, holds, h) f nf nm = (λ e. cc, λ other. absurd (other (own_file (outside.file name).before file m f holds)))
-  model_cause outside OutFault name text file (m, holds, h) f nf nm = (λ e. cc, λ other. absurd (other (own_file (outside.file name).before file m f holds)))
+  model_cause (check name) outside e file ran told nf nm = model_of_check name outside e file ran told nf nm
+  model_cause (eval name text) outside e file ran told nf nm = model_of_eval name text outside e file ran told nf nm
 
+-- a text of a process that is evaluated is not refused
+process_taken : (m : Model) (text : List ℕ) (p : Process) → SaysProcess m text p → length p.legs ≤ most_legs → RefusesProcess m text → ⊥
+process_taken m text p says few refused =
+    elim refused [
+      | inl (fault, other) ↦ cc
+      | inr (r, reads, many) ↦ omega (arith, ap (λ (x : Process). length x.legs) (one_process m text r p reads says))
+    ]
+
+process_refused : (m : Model) (text : List ℕ) (quiet : Type 0) (rest : Model → Process → Ending → Type 0) (e : Ending) → WithProcess text quiet rest m e → (status_of e ≡ 4) ↔ RefusesProcess m text
+process_refused m text quiet rest (ProcessFault fault) (other, q) = (λ e. inl (fault, other), λ h. refl)
+process_refused m text quiet rest ProcessNotBuilt (p, says, many, q) = (λ e. inr (p, says, many), λ h. refl)
+process_refused m text quiet rest e ran = other_status (λ e. omega arith) (process_taken m text ran.0 ran.1 ran.2)
+
+module _ {E : Type 0} (o : Ops E) (show : E → List ℕ) where
   pub process_cause : ProcessCause o show
-  process_cause outside ProcessNotBuilt name text (m, holds, (other, quiet)) f nf nm = (λ e. other, λ h. refl)
-  process_cause outside ModelNotBuilt name text ((bytes, holds, other), quiet) f nf nm = absurd (other phi3 (record { spelled = told_file (outside.file name).before phi3_text bytes f holds; is_phi3 = refl }))
-  process_cause outside Usage name text ran f nf nm = absurd ran
-  process_cause outside FileFault name text ran f nf nm = absurd (nf ran.0)
-  process_cause outside NoMemory name text ran f nf nm = absurd (nm refl)
-  process_cause outside Done name text (m, holds, (p, says, h)) f nf nm = (λ e. cc, λ never. absurd (never p says))
-  process_cause outside EventsNotBuilt name text (m, holds, (p, says, h)) f nf nm = (λ e. cc, λ never. absurd (never p says))
-  process_cause outside InputFault name text (m, holds, (p, says, h)) f nf nm = (λ e. cc, λ never. absurd (never p says))
-  process_cause outside OutFault name text (m, holds, (p, says, h)) f nf nm = (λ e. cc, λ never. absurd (never p says))
+  process_cause outside e name text file m ran told nf nm is_file scalars =
+      let quiet = IsUntouched outside.input × IsUntouched outside.out in
+      let rest : Model → Process → Ending → Type 0 = λ m p. Evaluates o show m (scattering_of m p) outside.input outside.out in
+      elim (with_model o (outside.file name) file told m is_file quiet (WithScalars quiet (WithProcess text quiet rest)) e nf ran) [
+        | inl none ↦ absurd (nm none)
+        | inr h ↦ process_refused m text quiet rest e (with_scalars quiet (WithProcess text quiet rest) m e scalars h)
+      ]
 
-  -- with a diagram an input that was answered is an event
-  module _ (outside : Outside) (text bytes : List ℕ) (p : Process) (says : SaysProcess text p) (told : outside.input.before ≡ Some bytes) where
-    answered_event : (m : Model) (ts : List Tree) → m ≡ phi3 → AreDiagrams (scattering_of m p) ts → EvaluatesBy o show m (scattering_of m p) ts outside.input outside.out Done → IsNoEvent (length p.legs) bytes → ⊥
-    answered_event m [] same are h none = has_diagram text p says [] (subst (λ (x : Model). AreDiagrams (scattering_of x p) []) same are) refl
-    answered_event m (t ∷ ts) same are (given, gave, (done, a, answered, gained)) none =
-        none answered.legs (subst (λ (t : List ℕ). IsEvent (length p.legs) t answered.legs) (sym (all_given outside.input.after given bytes (rest_of outside.input.before outside.input.after given bytes told gave) done)) answered.is_event)
+  module _ (outside : Outside) (m : Model) (p : Process) where
+    abbrev s : Scattering
+    s = scattering_of m p
 
-    refused_input : (m : Model) (ts : List Tree) → EvaluatesBy o show m (scattering_of m p) ts outside.input outside.out EventsNotBuilt → IsNoEvent (length p.legs) bytes
-    refused_input m [] h = absurd h
-    refused_input m (t ∷ ts) (given, gave, (refused, quiet)) = λ legs e. never_refused (length p.legs) outside.input given bytes legs told gave e refused
+    -- the first of some diagrams is one
+    first_diagram : (t : Tree) (ts : List Tree) → AreDiagrams s (t ∷ ts) → HasDiagram s
+    first_diagram t ts are = (t, (are.members t).0 (inl refl))
 
-  failed_input : (outside : Outside) (m : Model) (p : Process) → Evaluates o show m (scattering_of m p) outside.input outside.out InputFault → Failed outside.input
-  failed_input outside m p ([], are, h) = absurd h
-  failed_input outside m p (t ∷ ts, are, (given, gave, (failed, quiet))) = failed
+    failed_input : Evaluates o show m s outside.input outside.out InputFault → Failed outside.input × HasDiagram s
+    failed_input ([], are, h) = absurd h
+    failed_input (t ∷ ts, are, (given, gave, (failed, quiet))) = (failed, first_diagram t ts are)
 
-  failed_out : (outside : Outside) (m : Model) (p : Process) → Evaluates o show m (scattering_of m p) outside.input outside.out OutFault → Failed outside.out
-  failed_out outside m p ([], are, h) = h.0
-  failed_out outside m p (t ∷ ts, are, (given, gave, h)) = h.0
+    failed_out : Evaluates o show m s outside.input outside.out OutFault → Failed outside.out
+    failed_out ([], are, h) = h.0
+    failed_out (t ∷ ts, are, (given, gave, h)) = h.0
 
-  silent_events : (outside : Outside) (m : Model) (p : Process) → Evaluates o show m (scattering_of m p) outside.input outside.out EventsNotBuilt → IsUntouched outside.out
-  silent_events outside m p ([], are, h) = absurd h
-  silent_events outside m p (t ∷ ts, are, (given, gave, (refused, quiet))) = quiet
+    silent_events : Evaluates o show m s outside.input outside.out EventsNotBuilt → IsUntouched outside.out
+    silent_events ([], are, h) = absurd h
+    silent_events (t ∷ ts, are, (given, gave, (refused, quiet))) = quiet
 
-  silent_fault : (outside : Outside) (m : Model) (p : Process) → Evaluates o show m (scattering_of m p) outside.input outside.out InputFault → IsUntouched outside.out
-  silent_fault outside m p ([], are, h) = absurd h
-  silent_fault outside m p (t ∷ ts, are, (given, gave, (failed, quiet))) = quiet
+    silent_fault : Evaluates o show m s outside.input outside.out InputFault → IsUntouched outside.out
+    silent_fault ([], are, h) = absurd h
+    silent_fault (t ∷ ts, are, (given, gave, (failed, quiet))) = quiet
 
-  -- the process of a run is the one that the text says
-  abbrev RunsWith : Outside → Ending → Model → Process → Type 0
-  RunsWith outside ending m p = Evaluates o show m (scattering_of m p) outside.input outside.out ending
-
-  as_said : (outside : Outside) (ending : Ending) (text : List ℕ) (m : Model) (p q : Process) → SaysProcess text p → SaysProcess text q → RunsWith outside ending m q → RunsWith outside ending m p
-  as_said outside ending text m p q says reads h = subst (λ (x : Process). RunsWith outside ending m x) (one_process text q p reads says) h
+    -- what stands with an input that is told
+    module _ (input : List ℕ) (told : outside.input.before ≡ Some input) (ni : ¬ Failed outside.input) (nw : ¬ Failed outside.out) where
+      refused_events : (e : Ending) (ts : List Tree) → AreDiagrams s ts → EvaluatesBy o show m s ts outside.input outside.out e → (status_of e ≡ 6) ↔ (HasDiagram s × IsNoEvent o (length p.legs) input)
+      refused_events Done [] are h = other_status (λ e. omega arith) (λ (d, none). (are.members d.0).1 d.1)
+      refused_events OutFault [] are h = absurd (nw h.0)
+      refused_events e [] are h = absurd h
+      refused_events EventsNotBuilt (t ∷ ts) are (given, gave, (refused, quiet)) =
+          (λ e. (first_diagram t ts are, λ legs event. never_refused o (length p.legs) outside.input given input legs told gave event refused), λ h. refl)
+      refused_events Done (t ∷ ts) are (given, gave, (done, a, answered, gained)) =
+          other_status (λ e. omega arith) (λ (d, none). none answered.legs (subst (λ (x : List ℕ). IsEvent o (length p.legs) x answered.legs) (sym (all_given outside.input.after given input (rest_of outside.input.before outside.input.after given input told gave) done)) answered.is_event))
+      refused_events InputFault (t ∷ ts) are (given, gave, h) = absurd (ni h.0)
+      refused_events OutFault (t ∷ ts) are (given, gave, h) = absurd (nw h.0)
+      refused_events e (t ∷ ts) are (given, gave, h) = absurd h
 
   pub events_cause : EventsCause o show
-  events_cause outside EventsNotBuilt name text bytes p (m, holds, (q, reads, h)) f says told nf ni nw nm =
-      (λ e. (let (ts, are, by) = as_said outside EventsNotBuilt text m p q says reads h in refused_input outside text bytes p says told m ts by), λ none. refl)
-  events_cause outside Done name text bytes p (m, holds, (q, reads, h)) f says told nf ni nw nm =
-      (λ e. cc, λ none. absurd (let (ts, are, by) = as_said outside Done text m p q says reads h in answered_event outside text bytes p says told m ts holds.2.is_phi3 are by none))
-  events_cause outside InputFault name text bytes p (m, holds, (q, reads, h)) f says told nf ni nw nm = absurd (ni (failed_input outside m q h))
-  events_cause outside OutFault name text bytes p (m, holds, (q, reads, h)) f says told nf ni nw nm = absurd (nw (failed_out outside m q h))
-  events_cause outside ProcessNotBuilt name text bytes p (m, holds, (other, quiet)) f says told nf ni nw nm = absurd (other p says)
-  events_cause outside ModelNotBuilt name text bytes p ((file, holds, other), quiet) f says told nf ni nw nm = absurd (other phi3 (record { spelled = told_file (outside.file name).before phi3_text file f holds; is_phi3 = refl }))
-  events_cause outside Usage name text bytes p ran f says told nf ni nw nm = absurd ran
-  events_cause outside FileFault name text bytes p ran f says told nf ni nw nm = absurd (nf ran.0)
-  events_cause outside NoMemory name text bytes p ran f says told nf ni nw nm = absurd (nm refl)
+  events_cause outside e name text file input m p ran told are told_input nf ni nw nm =
+      elim (evaluated o show (outside.file name) outside.input outside.out file text m p e told nf are ran) [
+        | inl none ↦ absurd (nm none)
+        | inr (ts, list, h) ↦ refused_events outside m p input told_input ni nw e ts list h
+      ]
 
   pub fault_causes : FaultCauses o show
-  fault_causes outside FileFault name text ran = (λ e. ran.0, λ e. cc, λ e. cc)
-  fault_causes outside InputFault name text (m, holds, (p, says, h)) = (λ e. cc, λ e. (failed_input outside m p h, record { model = m; process = p; holds_model = holds; says_process = says }), λ e. cc)
-  fault_causes outside OutFault name text (m, holds, (p, says, h)) = (λ e. cc, λ e. cc, λ e. (failed_out outside m p h, record { model = m; process = p; holds_model = holds; says_process = says }))
-  fault_causes outside Done name text ran = (λ e. cc, λ e. cc, λ e. cc)
-  fault_causes outside Usage name text ran = (λ e. cc, λ e. cc, λ e. cc)
-  fault_causes outside ModelNotBuilt name text ran = (λ e. cc, λ e. cc, λ e. cc)
-  fault_causes outside ProcessNotBuilt name text ran = (λ e. cc, λ e. cc, λ e. cc)
-  fault_causes outside EventsNotBuilt name text ran = (λ e. cc, λ e. cc, λ e. cc)
-  fault_causes outside NoMemory name text ran = (λ e. cc, λ e. cc, λ e. cc)
+  fault_causes (check name) outside FileFault (q, (failed, quiet)) = (λ e. failed, λ e. cc, λ e. cc)
+  fault_causes (check name) outside OutFault (q, (m, holds, (failed, prefix))) = (λ e. cc, λ e. cc, λ e. (failed, (m, holds)))
+  fault_causes (check name) outside InputFault (q, (m, holds, w)) = absurd w
+  fault_causes (check name) outside e ran = (λ e. cc, λ e. cc, λ e. cc)
+  fault_causes (eval name text) outside FileFault (failed, quiet) = (λ e. failed, λ e. cc, λ e. cc)
+  fault_causes (eval name text) outside InputFault (m, (file, holds, is_file), (scalars, (p, says, few, h))) =
+      let (failed, some) = failed_input outside m p h in
+      (λ e. cc, λ e. (failed, (file, m, p, holds, record { model = is_file; scalars = scalars; process = says; few = few }, some)), λ e. cc)
+  fault_causes (eval name text) outside OutFault (m, (file, holds, is_file), (scalars, (p, says, few, h))) =
+      (λ e. cc, λ e. cc, λ e. (failed_out outside m p h, (file, m, p, holds, record { model = is_file; scalars = scalars; process = says; few = few })))
+  fault_causes (eval name text) outside e ran = (λ e. cc, λ e. cc, λ e. cc)
 
   pub quiet_endings : QuietEndings o show
   quiet_endings None outside Usage ran h = ran
-  quiet_endings None outside Done ran h = absurd ran
-  quiet_endings None outside ModelNotBuilt ran h = absurd ran
-  quiet_endings None outside ProcessNotBuilt ran h = absurd ran
-  quiet_endings None outside EventsNotBuilt ran h = absurd ran
-  quiet_endings None outside FileFault ran h = absurd ran
-  quiet_endings None outside InputFault ran h = absurd ran
-  quiet_endings None outside OutFault ran h = absurd ran
-  quiet_endings None outside NoMemory ran h = absurd ran
+  quiet_endings None outside e ran h = absurd ran
+  quiet_endings (Some (check name)) outside Usage (q, ran) h = absurd ran
+  quiet_endings (Some (check name)) outside ModelTooLong (q, (long, quiet)) h = (q, quiet)
+  quiet_endings (Some (check name)) outside (ModelFault fault) (q, (holds, quiet)) h = (q, quiet)
+  quiet_endings (Some (check name)) outside FileFault (q, (failed, quiet)) h = (q, quiet)
+  quiet_endings (Some (check name)) outside NoMemory ran h = ran
+  quiet_endings (Some (check name)) outside Done ran h = cc
+  quiet_endings (Some (check name)) outside OutFault ran h = cc
+  quiet_endings (Some (check name)) outside e ran h = absurd ran.1.2
   quiet_endings (Some (eval name text)) outside Usage ran h = absurd ran
-  quiet_endings (Some (eval name text)) outside ModelNotBuilt ran h = ran.1
-  quiet_endings (Some (eval name text)) outside ProcessNotBuilt (m, holds, (other, quiet)) h = quiet
-  quiet_endings (Some (eval name text)) outside FileFault ran h = ran.1
+  quiet_endings (Some (eval name text)) outside ModelTooLong (long, quiet) h = quiet
+  quiet_endings (Some (eval name text)) outside (ModelFault fault) (holds, quiet) h = quiet
+  quiet_endings (Some (eval name text)) outside ModelNotBuilt (m, holds, (other, quiet)) h = quiet
+  quiet_endings (Some (eval name text)) outside (ProcessFault fault) (m, holds, (scalars, (other, quiet))) h = quiet
+  quiet_endings (Some (eval name text)) outside ProcessNotBuilt (m, holds, (scalars, (p, says, many, quiet))) h = quiet
+  quiet_endings (Some (eval name text)) outside FileFault (failed, quiet) h = quiet
   quiet_endings (Some (eval name text)) outside NoMemory ran h = ran
-  quiet_endings (Some (eval name text)) outside Done ran h = cc
-  quiet_endings (Some (eval name text)) outside EventsNotBuilt ran h = cc
-  quiet_endings (Some (eval name text)) outside InputFault ran h = cc
-  quiet_endings (Some (eval name text)) outside OutFault ran h = cc
+  quiet_endings (Some (eval name text)) outside e ran h = cc
 
   pub silent_endings : SilentEndings o show
-  silent_endings None outside EventsNotBuilt ran h = absurd ran
-  silent_endings None outside InputFault ran h = absurd ran
   silent_endings None outside Usage ran h = cc
-  silent_endings None outside Done ran h = absurd ran
-  silent_endings None outside ModelNotBuilt ran h = absurd ran
-  silent_endings None outside ProcessNotBuilt ran h = absurd ran
-  silent_endings None outside FileFault ran h = absurd ran
-  silent_endings None outside OutFault ran h = absurd ran
-  silent_endings None outside NoMemory ran h = absurd ran
-  silent_endings (Some (eval name text)) outside EventsNotBuilt (m, holds, (p, says, e)) h = silent_events outside m p e
-  silent_endings (Some (eval name text)) outside InputFault (m, holds, (p, says, e)) h = silent_fault outside m p e
-  silent_endings (Some (eval name text)) outside Usage ran h = absurd ran
-  silent_endings (Some (eval name text)) outside Done ran h = cc
-  silent_endings (Some (eval name text)) outside ModelNotBuilt ran h = cc
-  silent_endings (Some (eval name text)) outside ProcessNotBuilt ran h = cc
-  silent_endings (Some (eval name text)) outside FileFault ran h = cc
-  silent_endings (Some (eval name text)) outside OutFault ran h = cc
-  silent_endings (Some (eval name text)) outside NoMemory ran h = cc
+  silent_endings None outside e ran h = absurd ran
+  silent_endings (Some (check name)) outside EventsNotBuilt (q, (m, holds, w)) h = absurd w
+  silent_endings (Some (check name)) outside InputFault (q, (m, holds, w)) h = absurd w
+  silent_endings (Some (check name)) outside e ran h = cc
+  silent_endings (Some (eval name text)) outside EventsNotBuilt (m, holds, (scalars, (p, says, few, h))) silent = silent_events outside m p h
+  silent_endings (Some (eval name text)) outside InputFault (m, holds, (scalars, (p, says, few, h))) silent = silent_fault outside m p h
+  silent_endings (Some (eval name text)) outside e ran h = cc
+
+  pub check_endings : CheckEndings o show
+  check_endings name outside Done (q, ran) = (q, inl refl)
+  check_endings name outside ModelTooLong (q, ran) = (q, inr (inl refl))
+  check_endings name outside (ModelFault fault) (q, ran) = (q, inr (inl refl))
+  check_endings name outside FileFault (q, ran) = (q, inr (inr (inl refl)))
+  check_endings name outside OutFault (q, ran) = (q, inr (inr (inr (inl refl))))
+  check_endings name outside NoMemory (q, ran) = (q, inr (inr (inr (inr (inl refl)))))
+  check_endings name outside Usage (q, ran) = absurd ran
+  check_endings name outside e (q, ran) = absurd ran.2

@@ -1,18 +1,29 @@
--- Files that hold no model.
-use Rattle.std.proofs.Common.{◌≡◌, ℕ, ◌<◌, List, [], ◌∷◌, length, Option, Some, None, IfSome, refl, ap, sym, ◌∙◌, arith}
+-- What the bytes of a file say.
+use Rattle.std.proofs.Common.{◌≡◌, ℕ, ◌≤◌, ◌<◌, List, length, Ok, refl, subst, arith, inl}
+use Rattle.om_ring.specs.Ops.{Ops}
+use Rattle.om_model.specs.Rules.{Breaks, IsAccepted}
 use Rattle.om_model.specs.declared.model.Model.{Model}
-use Rattle.om_top.specs.Outside.{Side, Holds}
-use Rattle.om_top.specs.Loads.{HoldsNoModel}
-use Rattle.om_top.specs.Phi3.{SaysModel, phi3_text}
+use Rattle.om_model.specs.declared.rules.ModelRule.TheVariants.{Limit}
+use Rattle.om_model.specs.declared.rules.Table.TheVariants.{Top}
+use Rattle.om_modelfile.specs.ModelOf.{SaysModel}
+use Rattle.om_modelfile.specs.declared.fault.ModelFault.{ModelFault}
+use Rattle.om_modelfile.specs.declared.fault.ModelFault.TheVariants.{Rule, Memory}
+use Rattle.om_top.specs.Loads.{SaysFault}
 
-long_text : (bytes : List ℕ) (model : Model) → 1048576 < length bytes → SaysModel bytes model → ⊥
-long_text bytes model h s = omega (arith, ap length s.spelled)
+-- an accepted model has at most 64 particles
+pub few_particles : {E : Type 0} (o : Ops E) (m : Model) → IsAccepted o m → length m.particles ≤ 64
+few_particles o m accepted =
+    let never : 64 < length m.particles → ⊥ = λ many. accepted (record { rule = Limit; table = Top; row = 0 }) (refl, refl, inl many) in
+    omega (arith, never)
 
-nothing : (model : Model) → SaysModel [] model → ⊥
-nothing model s = omega (arith, ap length s.spelled)
+module _ {E : Type 0} (o : Ops E) (bytes : List ℕ) where
+  -- bytes are those of one model
+  pub one_model : (a b : Model) → SaysModel o bytes (Ok a) → SaysModel o bytes (Ok b) → a ≡ b
+  one_model a b (p, _) (q, _) = cc
 
--- a file that is too long
-pub too_long : (told : Option (List ℕ)) (after : Option (List ℕ)) (before now : ℕ) → IfSome told (λ file. 1048576 < length file)
-    → HoldsNoModel (record { before = told; after = after; faults_before = before; faults_after = now })
-too_long None after before now h = ([], tt, nothing)
-too_long (Some file) after before now h = (file, refl, λ model s. long_text file model h s)
+  -- bytes are not those of a model and of a fault
+  pub no_fault : (m : Model) (fault : ModelFault) → SaysModel o bytes (Ok m) → SaysFault o bytes fault → ⊥
+  no_fault m Memory says fault = fault
+  no_fault m (Rule broken) (form, accepted) (n, form_n, (breaks, first)) =
+      accepted broken (subst (λ (x : Model). Breaks o x broken) (let same : n ≡ m = cc in same) breaks)
+  no_fault m fault (form, accepted) says = cc

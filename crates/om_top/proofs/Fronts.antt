@@ -1,11 +1,8 @@
 -- What stands at the front of a text.
-use Rattle.std.proofs.Common.{◌≡◌, ℕ, ◌==◌, nat_eq, Bool, true, false, List, [], ◌∷◌, ◌++◌, length, take, drop, Option, Some, None, refl, ap, sym, ◌∙◌, arith, inl, inr}
-use Rattle.std.specs.Char.{is_ascii_digit}
-use Rattle.std.specs.List.{prefix_len}
+use Rattle.std.proofs.Common.{◌≡◌, ℕ, nat_eq, true, false, List, [], ◌∷◌, ◌++◌, length, take, drop, Option, Some, None, refl, ap, ◌∙◌, inl, inr}
 use Rattle.std.specs.Cmp.Lexicographic.{pointwise}
 use Rattle.std.proofs.lemmas.Bool.{cases_Bool, eqb-true, eq-eqb}
-use Rattle.om_top.specs.declared.event_text.Integer.TheVariants.{NonNegative, Negated}
-use Rattle.om_top.specs.Scan.{after_piece, Scans, number_of_digits, front_number, front_integer}
+use Rattle.om_top.specs.Scan.{after_piece, Scans}
 
 -- a text that begins with a piece
 pub takes_piece : (p s : List ℕ) → pointwise nat_eq (take (length p) s) p ≡ true → after_piece p s ≡ Some (drop (length p) s)
@@ -47,29 +44,3 @@ piece_taken (p ∷ ps) rest = (let same : nat_eq p p ≡ true = eq-eqb p p refl 
 pub scans_none : {A : Type 0} (found : Option (A × List ℕ)) (r : Option A) (rest : List ℕ) → r ≡ None → found ≡ None → Scans found r rest
 scans_none found None rest e h = h
 scans_none found (Some x) rest e h = cc
-
-pub front_number-some : (text digits rest : List ℕ) (n : ℕ) → digits ≡ take (prefix_len is_ascii_digit text) text → rest ≡ drop (prefix_len is_ascii_digit text) text → Some n ≡ number_of_digits digits → front_number text ≡ Some (n, rest)
-unfolding front_number
-front_number-some text digits rest n d r h = rw (← d, ← h, ← r) refl
-
-pub front_number-none : (text digits : List ℕ) → digits ≡ take (prefix_len is_ascii_digit text) text → None ≡ number_of_digits digits → front_number text ≡ None
-unfolding front_number
-front_number-none text digits d h = rw (← d, ← h) refl
-
-pub front_integer-negated : (text rest end : List ℕ) (n : ℕ) → after_piece (45 ∷ []) text ≡ Some rest → front_number rest ≡ Some (n, end) → front_integer text ≡ Some (Negated n, end)
-unfolding front_integer
-front_integer-negated text rest end n p h = rw (p, h) refl
-
-pub front_integer-plain : (text end : List ℕ) (n : ℕ) → after_piece (45 ∷ []) text ≡ None → front_number text ≡ Some (n, end) → front_integer text ≡ Some (NonNegative n, end)
-unfolding front_integer
-front_integer-plain text end n p h = rw (p, h) refl
-
-pub front_integer-none : (text rest : List ℕ) → after_piece (45 ∷ []) text ≡ Some rest → front_number rest ≡ None → front_integer text ≡ None
-unfolding front_integer
-front_integer-none text rest p h = rw (p, h) refl
-
-pub front_integer-none_plain : (text : List ℕ) → after_piece (45 ∷ []) text ≡ None → front_number text ≡ None → front_integer text ≡ None
-unfolding front_integer
-front_integer-none_plain text p h = rw (p, h) refl
-
-pub ruleset integer_steps = (scans_none, front_integer-negated, front_integer-plain, front_integer-none, front_integer-none_plain)

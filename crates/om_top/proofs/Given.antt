@@ -1,5 +1,5 @@
 -- What the bytes that an input gave are.
-use Rattle.std.proofs.Common.{◌≡◌, ℕ, ◌+◌, ◌≤◌, ◌<◌, ◌^◌, List, ◌++◌, length, map, take, Option, Some, None, refl, ap, sym, ◌∙◌, arith, inl, inr, subst, length-append}
+use Rattle.std.proofs.Common.{◌≡◌, ℕ, ◌≤◌, List, ◌++◌, length, map, take, Some, None, arith, inl, inr, subst, length-append}
 use Rattle.om_ring.specs.Ops.{Ops}
 use Rattle.om_top.specs.Eval.{IsRefused, IsNoEvent}
 use Rattle.om_top.specs.EventScan.{event_in}
@@ -14,18 +14,18 @@ use Rattle.om_top.proofs.Found.{is_event}
 use Rattle.om_top.proofs.Spelled.{event_in-spelled}
 
 -- more bytes than an event has
-pub too_many : (n size : ℕ) (input : Side) → n ≤ 5 → size ≡ 1024 → (given : List ℕ) × Gave input given × (size ≤ length given) → (given : List ℕ) × Gave input given × IsRefused n input given
-too_many n size input few long (given, gave, many) =
-    (given, gave, inr (λ rest legs e. let most = event_size n (given ++ rest) legs few e in omega (arith, length-append given rest)))
+pub too_many : {E : Type 0} (o : Ops E) (n size : ℕ) (input : Side) → n ≤ 5 → size ≡ 2048 → (given : List ℕ) × Gave input given × (size ≤ length given) → (given : List ℕ) × Gave input given × IsRefused o n input given
+too_many o n size input few long (given, gave, many) =
+    (given, gave, inr (λ rest legs e. let most = event_size o n (given ++ rest) legs few e in omega (arith, length-append given rest)))
 
 -- bytes that are no event
-no_event : (n : ℕ) (text : List ℕ) → n ≤ 5 → event_in n text ≡ None → IsNoEvent n text
-no_event n text few h legs e = let found : event_in n text ≡ Some legs = event_in-spelled n text legs (omega arith) e in cc
+no_event : {E : Type 0} (o : Ops E) (n : ℕ) (text : List ℕ) → event_in o n text ≡ None → IsNoEvent o n text
+no_event o n text h legs e = let found : event_in o n text ≡ Some legs = event_in-spelled o n text legs e in cc
 
-module _ (n : ℕ) (input : Side) (len : ℕ) (buffer text : List ℕ) (few : n ≤ 5) (all : (len ≤ length buffer) × Gave input (take len buffer) × IsDone input) (same : text ≡ take len buffer) where
-  pub gave_no_event : event_in n text ≡ None → (given : List ℕ) × Gave input given × IsRefused n input given
-  gave_no_event h = (take len buffer, all.1, inl (all.2, subst (λ (t : List ℕ). IsNoEvent n t) same (no_event n text few h)))
+module _ {E : Type 0} (o : Ops E) (n : ℕ) (input : Side) (len : ℕ) (buffer text : List ℕ) (all : (len ≤ length buffer) × Gave input (take len buffer) × IsDone input) (same : text ≡ take len buffer) where
+  pub gave_no_event : event_in o n text ≡ None → (given : List ℕ) × Gave input given × IsRefused o n input given
+  gave_no_event h = (take len buffer, all.1, inl (all.2, subst (λ (t : List ℕ). IsNoEvent o n t) same (no_event o n text h)))
 
-  pub gave_event : {E : Type 0} (o : Ops E) (now : List (Incoming E)) → (legs : List LegNumbers) × (event_in n text ≡ Some legs) × (now ≡ map (incoming_of o) legs) → (given : List ℕ) × Gave input given × ReadsLegs o n input given now
-  gave_event o now (legs, found, places) =
-      (take len buffer, all.1, record { done = all.2; legs = legs; is_event = subst (λ (t : List ℕ). IsEvent n t legs) same (is_event n text legs found); places = places })
+  pub gave_event : (now : List (Incoming E)) → (legs : List LegNumbers) × (event_in o n text ≡ Some legs) × (now ≡ map (incoming_of o) legs) → (given : List ℕ) × Gave input given × ReadsLegs o n input given now
+  gave_event now (legs, found, places) =
+      (take len buffer, all.1, record { done = all.2; legs = legs; is_event = subst (λ (t : List ℕ). IsEvent o n t legs) same (is_event o n text legs found); places = places })

@@ -1,8 +1,9 @@
 -- Lists that are filled from the front.
-use Rattle.std.proofs.Common.{◌≡◌, ℕ, suc, ◌+◌, ◌<◌, ◌≤◌, List, [], ◌∷◌, ◌++◌, length, map, take, drop, get_or, refl, ap, sym, ◌∙◌, arith, append_assoc, append-nil, add-one}
+use Rattle.std.proofs.Common.{◌≡◌, ℕ, ◌+◌, ◌<◌, ◌≤◌, List, [], ◌∷◌, ◌++◌, length, map, take, drop, get_or, ap, sym, ◌∙◌, arith, append_assoc, append-nil, add-one}
 use Rattle.std.specs.Prelude.{slice_set}
 use Rattle.std.proofs.Math.Seq.{drop-cons, set-append_seam}
-use Rattle.std.proofs.lemmas.List.{map-append, length-map, take_at}
+use Rattle.om_top.specs.declared.event.Table.{Table}
+use Rattle.std.proofs.lemmas.List.{map-append, length-map, length-set, length-take-le, take_at, take_all, take_more, drop_all}
 
 -- the front of a list holds values of f, and then one more
 pub set_more : {A B : Type 0} (f : A → B) (xs : List A) (x : A) (k : ℕ) (first now next : List B) → length xs ≡ k → k < length first → now ≡ map f xs ++ drop k first → next ≡ slice_set now k (f x)
@@ -16,32 +17,25 @@ set_more f xs x k first now next count h e s =
     ∙ sym (append_assoc (map f xs) (f x ∷ []) (drop (k + 1) first))
     ∙ ap (λ (t : List _). t ++ drop (k + 1) first) (sym (map-append f xs (x ∷ [])))
 
--- all four places, one after the other
-set_four : {A : Type 0} (xs : List A) (a b c d : A) → length xs ≡ 4 → slice_set (slice_set (slice_set (slice_set xs 0 a) 1 b) 2 c) 3 d ≡ a ∷ b ∷ c ∷ d ∷ []
-set_four (x ∷ y ∷ z ∷ w ∷ []) a b c d h = refl
-set_four [] a b c d h = absurd (omega arith)
-set_four (x ∷ []) a b c d h = absurd (omega arith)
-set_four (x ∷ y ∷ []) a b c d h = absurd (omega arith)
-set_four (x ∷ y ∷ z ∷ []) a b c d h = absurd (omega arith)
-set_four (x ∷ y ∷ z ∷ w ∷ v ∷ xs) a b c d h = absurd (omega arith)
+-- values of f at the front of a list, and then that of the next member
+pub set_next : {A B : Type 0} (f : A → B) (xs : List A) (k : ℕ) (x : A) (v : B) (first now next : List B) → length first ≡ length xs → k < length xs → x ≡ get_or xs k x → v ≡ f x → now ≡ map f (take k xs) ++ drop k first → next ≡ slice_set now k v
+    → next ≡ map f (take (k + 1) xs) ++ drop (k + 1) first
+set_next f xs k x v first now next size h at is e s =
+    set_more f (take k xs) (get_or xs k x) k first now next (length-take-le k xs (omega arith)) (omega arith) e (s ∙ ap (slice_set now k) (is ∙ ap f at))
+    ∙ ap (λ (ys : List _). map f ys ++ drop (k + 1) first) (sym (take_more xs k x h))
 
--- the values of f at all four of a list
-pub set_values : {A B : Type 0} (f : A → B) (xs : List A) (first m1 m2 m3 m4 : List B) (a b c d : A) → length xs ≡ 4 → length first ≡ 4 → m1 ≡ slice_set first 0 (f (get_or xs 0 a)) → m2 ≡ slice_set m1 1 (f (get_or xs 1 b))
-    → m3 ≡ slice_set m2 2 (f (get_or xs 2 c)) → m4 ≡ slice_set m3 3 (f (get_or xs 3 d)) → m4 ≡ map f xs
-set_values f (x ∷ y ∷ z ∷ w ∷ []) first m1 m2 m3 m4 a b c d h l p q r s =
-    s ∙ ap (λ (t : List _). slice_set t 3 (f w)) (r ∙ ap (λ (t : List _). slice_set t 2 (f z)) (q ∙ ap (λ (t : List _). slice_set t 1 (f y)) p)) ∙ set_four first (f x) (f y) (f z) (f w) l
-set_values f [] first m1 m2 m3 m4 a b c d h l p q r s = absurd (omega arith)
-set_values f (x ∷ []) first m1 m2 m3 m4 a b c d h l p q r s = absurd (omega arith)
-set_values f (x ∷ y ∷ []) first m1 m2 m3 m4 a b c d h l p q r s = absurd (omega arith)
-set_values f (x ∷ y ∷ z ∷ []) first m1 m2 m3 m4 a b c d h l p q r s = absurd (omega arith)
-set_values f (x ∷ y ∷ z ∷ w ∷ v ∷ xs) first m1 m2 m3 m4 a b c d h l p q r s = absurd (omega arith)
+pub set_size : {B : Type 0} (now next : List B) (k n : ℕ) (v : B) → next ≡ slice_set now k v → length now ≡ n → length next ≡ n
+set_size now next k n v e size = ap length e ∙ length-set now k v ∙ size
 
--- the one place
-pub set_one : {A : Type 0} (xs : List A) (a : A) → length xs ≡ 1 → slice_set xs 0 a ≡ a ∷ []
-set_one (x ∷ []) a h = refl
-set_one [] a h = absurd (omega arith)
-set_one (x ∷ y ∷ xs) a h = absurd (omega arith)
+-- all places
+pub set_all : {A B : Type 0} (f : A → B) (xs : List A) (k : ℕ) (first now : List B) → length first ≡ length xs → length xs ≤ k → now ≡ map f (take k xs) ++ drop k first → now ≡ map f xs
+set_all f xs k first now size h e =
+    e ∙ ap (λ (ys : List _). map f ys ++ drop k first) (take_all k xs h) ∙ ap (λ (ys : List _). map f xs ++ ys) (drop_all k first (omega arith)) ∙ append-nil (map f xs)
 
 -- a list whose front was overwritten from its first place to its last
 pub all_written : {A : Type 0} (len : ℕ) (new old : List A) → length new ≡ len → take len (new ++ drop (length new) old) ≡ new
 all_written len new old h = take_at new (drop (length new) old) len h
+
+-- a table by its lists
+pub same_table : {E : Type 0} (t u : Table E) → t.factors ≡ u.factors → t.masses ≡ u.masses → t.widths ≡ u.widths → t.norms ≡ u.norms → t ≡ u
+same_table t u a b c d = λ i. record { factors = a i; masses = b i; widths = c i; norms = d i }

@@ -1,11 +1,12 @@
 -- A command of the code as a command of the words.
 use Rattle.std.specs.Prelude.{ℕ, ◌≡◌, List, Option, Some, None}
-use Rattle.om_top.specs.Command.{command_of, eval, Command as Asked}
+use Rattle.om_top.specs.Command.{command_of, check, eval, Command as Asked}
 use Rattle.om_top.specs.declared.command.Command.{Command}
-use Rattle.om_top.specs.declared.command.Command.TheVariants.{Eval, Unknown}
+use Rattle.om_top.specs.declared.command.Command.TheVariants.{Check, Eval, Unknown}
 
 -- the command as it stands in the words
 abbrev pub asked : Command → Option Asked
+asked (Check model) = Some (check model.now)
 asked (Eval model process) = Some (eval model.now process.now)
 asked Unknown = None
 

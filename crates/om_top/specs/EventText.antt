@@ -1,45 +1,51 @@
 -- The text of an event.
-use Rattle.std.specs.Prelude.{ℕ, ◌+◌, ◌^◌, ◌<◌, ◌≡◌, List, [], ◌∷◌, ◌++◌, length, map, All, decimal}
+use Rattle.std.specs.Prelude.{ℕ, ◌+◌, ◌≡◌, List, [], ◌∷◌, ◌++◌, length, All, Ok, IsSome, decimal}
 use Rattle.std.specs.List.{flat_map}
-use Rattle.om_ring.specs.Ops.{Ops, number_of}
-use Rattle.om_top.specs.declared.event_text.Integer.{Integer}
-use Rattle.om_top.specs.declared.event_text.Integer.TheVariants.{NonNegative, Negated}
+use Rattle.om_ring.specs.Ops.{Ops}
+use Rattle.om_ring.specs.Numerals.{Reads}
+use Rattle.om_ring.specs.Products.{value_of}
+use Rattle.om_ring.specs.declared.numeral.Numeral.{Numeral}
+use Rattle.om_model.specs.Entries.{at_or}
 use Rattle.om_top.specs.declared.event_text.LegNumbers.{LegNumbers}
 
--- a number is written as its decimal, after a minus sign where it is negated
-abbrev pub integer_text : Integer → List ℕ
-integer_text (NonNegative n) = decimal n
-integer_text (Negated n) = 45 ∷ decimal n
-
--- the number is below 2^64
-abbrev pub IsInRange : Integer → Type 0
-IsInRange (NonNegative n) = n < 2 ^ 64
-IsInRange (Negated n) = n < 2 ^ 64
-
--- the element of the ring that it stands for
-abbrev pub integer_value : {E : Type 0} → Ops E → Integer → E
-integer_value o (NonNegative n) = number_of o n
-integer_value o (Negated n) = o.minus (number_of o n)
-
 -- the numbers of a leg in the order in which they are written: the momentum, and the wave function
-abbrev pub numbers_of : LegNumbers → List Integer
+abbrev pub numbers_of : LegNumbers → List Numeral
 numbers_of leg = leg.momentum ++ leg.wave ∷ []
 
--- the line of leg k: its number and the numbers of the leg, with single spaces between
-abbrev pub leg_text : ℕ → LegNumbers → List ℕ
-leg_text k leg = decimal k ++ flat_map (λ x. 32 ∷ integer_text x) (numbers_of leg) ++ 10 ∷ []
+-- each word is read as the numeral at its place
+abbrev pub AreRead : List (List ℕ) → List Numeral → Type 0
+AreRead [] [] = Unit {0}
+AreRead [] (x ∷ xs) = ⊥
+AreRead (word ∷ words) [] = ⊥
+AreRead (word ∷ words) (x ∷ xs) = Reads word (Ok x) × AreRead words xs
 
--- the lines of the legs from leg k on
-abbrev pub legs_text : ℕ → List LegNumbers → List ℕ
-legs_text k [] = []
-legs_text k (leg ∷ legs) = leg_text k leg ++ legs_text (k + 1) legs
+-- The line of leg k: its number, a space before each of some words, and a line feed. The words are read as the numbers of
+-- the leg.
+pub record IsLine (k : ℕ) (leg : LegNumbers) (line : List ℕ) : Type 0 where
+  pub words : List (List ℕ)
+  pub are_read : AreRead words (numbers_of leg)
+  pub spelled : line ≡ decimal k ++ flat_map (λ word. 32 ∷ word) words ++ 10 ∷ []
 
--- a momentum has four components, and each number is below 2^64
-abbrev pub IsLeg : LegNumbers → Type 0
-IsLeg leg = (length leg.momentum ≡ 4) × All IsInRange (numbers_of leg)
+-- the lines of the legs from leg k on, and nothing more
+abbrev pub AreLines : ℕ → List LegNumbers → List ℕ → Type 0
+AreLines k [] text = text ≡ []
+AreLines k (leg ∷ legs) text = (line rest : List ℕ) × (text ≡ line ++ rest) × IsLine k leg line × AreLines (k + 1) legs rest
 
--- the text is that of an event of n legs, and nothing more
-pub record IsEvent (n : ℕ) (text : List ℕ) (legs : List LegNumbers) : Type 0 where
-  pub size : length legs ≡ n
-  pub in_range : All IsLeg legs
-  pub spelled : text ≡ legs_text 1 legs
+module _ {E : Type 0} (o : Ops E) where
+  -- the numeral has a value in the ring: its denominator has an inverse
+  abbrev pub HasValue : Numeral → Type 0
+  HasValue x = IsSome (value_of o x)
+
+  -- the element of the ring that a numeral stands for; in an event each has one
+  abbrev pub number_value : Numeral → E
+  number_value x = at_or o.zero (value_of o x)
+
+  -- a momentum has four components, and each number has a value
+  abbrev pub IsLeg : LegNumbers → Type 0
+  IsLeg leg = (length leg.momentum ≡ 4) × All HasValue (numbers_of leg)
+
+  -- the text is that of an event of n legs, and nothing more
+  pub record IsEvent (n : ℕ) (text : List ℕ) (legs : List LegNumbers) : Type 0 where
+    pub size : length legs ≡ n
+    pub are_legs : All IsLeg legs
+    pub spelled : AreLines 1 legs text

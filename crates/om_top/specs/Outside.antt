@@ -1,5 +1,5 @@
 -- What a call sees and leaves of the outside.
-use Rattle.std.specs.Prelude.{ℕ, ◌≡◌, ◌≤◌, List, [], ◌++◌, length, take, Option, Some, None, IfSome}
+use Rattle.std.specs.Prelude.{ℕ, ◌≡◌, ◌≤◌, List, [], length, take, Option, IfSome}
 use Rattle.om_io.specs.Causes.{Rose}
 use Rattle.om_io.specs.Bytes.{after_told, before_told}
 

@@ -17,22 +17,22 @@ Writes out text OutFault = Failed out × GainedPrefix out text
 Writes out text _ = ⊥
 
 -- why there is no event in an input
-abbrev pub ReadsNoEvent : ℕ → Side → List ℕ → Ending → Type 0
-ReadsNoEvent n input given EventsNotBuilt = IsRefused n input given
-ReadsNoEvent n input given InputFault = Failed input
-ReadsNoEvent n input given _ = ⊥
+abbrev pub ReadsNoEvent : {E : Type 0} → Ops E → ℕ → Side → List ℕ → Ending → Type 0
+ReadsNoEvent o n input given EventsNotBuilt = IsRefused o n input given
+ReadsNoEvent o n input given InputFault = Failed input
+ReadsNoEvent o n input given _ = ⊥
 
 -- the bytes that an input gave are an event of n legs, which stands in the places
 pub record ReadsLegs {E : Type 0} (o : Ops E) (n : ℕ) (input : Side) (given : List ℕ) (event : List (Incoming E)) : Type 0 where
   pub done : IsDone input
   pub legs : List LegNumbers
-  pub is_event : IsEvent n given legs
+  pub is_event : IsEvent o n given legs
   pub places : event ≡ map (incoming_of o) legs
 
 -- what the bytes are that an input gave
 abbrev pub ReadsGiven : {E : Type 0} → Ops E → ℕ → Side → List ℕ → List (Incoming E) → Result (Unit {0}) Ending → Type 0
 ReadsGiven o n input given event (Ok done) = ReadsLegs o n input given event
-ReadsGiven o n input given event (Err ending) = ReadsNoEvent n input given ending
+ReadsGiven o n input given event (Err ending) = ReadsNoEvent o n input given ending
 
 -- one event of n legs was read, or why not
 abbrev pub ReadsInput : {E : Type 0} → Ops E → ℕ → Side → List (Incoming E) → Result (Unit {0}) Ending → Type 0

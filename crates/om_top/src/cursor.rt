@@ -1,12 +1,8 @@
 //! Reading a text from its front.
-ghost use Rattle.std.specs.Prelude.{◌≡◌, ◌<◌, ◌^◌, ◌↔◌, [], Some, None, IsTrue, OnSome, IfNone};
-ghost use Rattle.std.specs.Str.Parse.{AllDigits, digits_value};
-ghost use Rattle.std.specs.Char.{is_ascii_digit};
+ghost use Rattle.std.specs.Prelude.{◌≡◌, ◌↔◌, [], Some, None, IsTrue, OnSome, IfNone};
 ghost use Rattle.std.specs.List.{prefix_len};
-ghost use Rattle.std.specs.Option.{SomeIff};
-ghost use Rattle.om_top.specs.Scan.{IsCanonical, after_piece, number_of_digits, front_number, front_integer, Scans};
+ghost use Rattle.om_top.specs.Scan.{after_piece, behind_word, is_in_word, word_of};
 
-use crate::event_text::Integer;
 use std::marker::Model;
 
 /// The part of a text that is not read yet. Contracts see it as the list of its bytes.
@@ -48,67 +44,22 @@ impl<'a> Cursor<'a> {
         Some(())
     }
 
-    /// Goes past the digits that the text goes on with, where they are the decimal of a number below 2^64, and answers it.
-    pub(crate) fn take_number(&mut self) -> Option<u64>
-        ensures { Scans (front_number self.old) result self.new }
+    /// Goes past the bytes before the next space or line feed, or the end of the text, and answers them.
+    pub(crate) fn take_word(&mut self) -> &'a [u8]
+        ensures word { result.now ≡ word_of self.old }
+        ensures rest { self.new ≡ behind_word self.old }
     {
-        let (digits, rest) = self.rest.split_at(digit_count(self.rest));
-        let number = number_of(digits)?;
+        let (word, rest) = self.rest.split_at(word_len(self.rest));
         self.rest = rest;
-        Some(number)
-    }
-
-    /// Goes past an optional minus sign and a number, and answers both.
-    #[tactic(auto, using(crate::proofs::Fronts::integer_steps))]
-    pub(crate) fn take_integer(&mut self) -> Option<Integer>
-        ensures { Scans (front_integer self.old) result self.new }
-    {
-        match self.take(b"-") {
-            Some(()) => Some(Integer::Negated(self.take_number()?)),
-            None => Some(Integer::NonNegative(self.take_number()?)),
-        }
+        word
     }
 }
 
-/// How many digits a text begins with.
-fn digit_count(text: &[u8]) -> usize
-    ensures { result ≡ prefix_len is_ascii_digit text.now }
+/// How many bytes stand before the first space or line feed, or the end of the text.
+fn word_len(text: &[u8]) -> usize
+    ensures { result ≡ prefix_len is_in_word text.now }
 {
-    text.iter().take_while(|b| b.is_ascii_digit()).count()
-}
-
-/// The number of which the digits are the decimal. None where they are of no number below 2^64.
-fn number_of(digits: &[u8]) -> Option<u64>
-    requires { AllDigits 10 digits.now }
-    ensures { result ≡ number_of_digits digits.now }
-{
-    if is_canonical(digits) {
-        value_of(digits)
-    } else {
-        None
-    }
-}
-
-/// Whether there is a digit, and no zero before another digit.
-fn is_canonical(digits: &[u8]) -> bool
-    ensures { IsTrue result ↔ IsCanonical digits.now }
-{
-    match digits.first() {
-        None => false,
-        Some(first) => *first != b'0' || digits.len() == 1,
-    }
-}
-
-/// The value of some digits, where it is below 2^64.
-fn value_of(digits: &[u8]) -> Option<u64>
-    requires { AllDigits 10 digits.now }
-    ensures { SomeIff result (digits_value 10 digits.now < 2 ^ 64) (digits_value 10 digits.now) }
-{
-    let mut number: u64 = 0;
-    for digit in digits {
-        number = number
-            .checked_mul(10)?
-            .checked_add(u64::from(*digit - b'0'))?;
-    }
-    Some(number)
+    text.iter()
+        .take_while(|b| **b != b' ' && **b != b'\n')
+        .count()
 }

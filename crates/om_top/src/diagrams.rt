@@ -2,6 +2,7 @@
 ghost use Rattle.std.specs.Prelude.{◌≡◌, ◌≤◌, [], ◌∷◌, ◌++◌, map, length, OnOk, IfOk};
 ghost use Rattle.om_model.specs.Model.{scattering_of};
 ghost use Rattle.om_top.specs.Shapes.{joined, joined_pairs, ListsDiagrams};
+ghost use Rattle.om_top.specs.Slots.{HasThreeOrFourSlots};
 
 use crate::combinations::legs_up_to;
 use crate::edge_name::EdgeName;
@@ -26,9 +27,10 @@ pub struct Diagrams {
     pub(crate) list: List<Diagram>,
 }
 
-/// All diagrams of a process over a model.
+/// All diagrams of a process over a model whose vertices have three or four slots each.
 pub fn list_diagrams(alloc: Global, model: &Model, process: &Process) -> Result<Diagrams, NoMemory>
-    requires { length process.now.legs ≤ 64 }
+    requires legs { length process.now.legs ≤ 64 }
+    requires slots { HasThreeOrFourSlots model.now }
     ensures { IfOk result (ListsDiagrams (scattering_of model.now process.now)) }
 {
     let legs = legs_up_to(alloc, process.legs.len())?;

@@ -2,6 +2,9 @@
 ghost use Rattle.std.specs.Prelude.{◌≡◌};
 ghost use Rattle.om_top.specs.Message.{status_of};
 
+use om_model::ProcessFault;
+use om_modelfile::ModelFault;
+
 /// How a run ends. Each ending has a status and, but for `Done`, a line on the standard error.
 #[derive(Clone, Copy, Debug, PartialEq, Eq)]
 pub enum Ending {
@@ -9,9 +12,15 @@ pub enum Ending {
     Done,
     /// The words have the form of no command.
     Usage,
-    /// The file is not that of the one model that is built so far.
+    /// The model's file has more bytes than a model file may have.
+    ModelTooLong,
+    /// The model's file is faulty, or its model breaks a rule. Want of memory is no such fault.
+    ModelFault(ModelFault),
+    /// A particle of the model is no scalar of colour 1; the events of such models aren't evaluated so far.
     ModelNotBuilt,
-    /// The process is none of those that are built so far.
+    /// The text is that of no process of the model. Want of memory is no such fault.
+    ProcessFault(ProcessFault),
+    /// The process has more legs than are evaluated so far.
     ProcessNotBuilt,
     /// The input is not one event and nothing more.
     EventsNotBuilt,
@@ -32,8 +41,8 @@ pub(crate) fn status(ending: Ending) -> u8
     match ending {
         Ending::Done => 0,
         Ending::Usage => 2,
-        Ending::ModelNotBuilt => 3,
-        Ending::ProcessNotBuilt => 4,
+        Ending::ModelTooLong | Ending::ModelFault(_) | Ending::ModelNotBuilt => 3,
+        Ending::ProcessFault(_) | Ending::ProcessNotBuilt => 4,
         Ending::EventsNotBuilt => 6,
         Ending::FileFault | Ending::InputFault => 7,
         Ending::OutFault => 8,

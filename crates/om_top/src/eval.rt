@@ -1,11 +1,13 @@
 //! `eval` answers an event.
 ghost use Rattle.std.specs.Prelude.{◌≡◌, ◌≤◌, All, length};
+ghost use Rattle.om_model.specs.Rules.{IsAccepted};
+ghost use Rattle.om_model.specs.ScalarRules.{HasColourlessScalars};
 ghost use Rattle.om_top.specs.AnswerOf.{answer_of};
 ghost use Rattle.om_top.specs.AnswerText.{answer_text, IsShort};
-ghost use Rattle.om_top.specs.Eval.{EvalRan, EvaluatesProcess};
+ghost use Rattle.om_top.specs.Eval.{EvaluatesProcess};
+ghost use Rattle.om_top.specs.EvalRan.{EvalRan};
 ghost use Rattle.om_top.specs.Incoming.{HasPlaces};
 ghost use Rattle.om_top.specs.Outside.{side};
-ghost use Rattle.om_top.specs.Phi3.{phi3};
 ghost use Rattle.om_top.specs.Stages.{ReadsInput, Writes};
 
 use crate::answer::Answer;
@@ -14,16 +16,16 @@ use crate::ending::Ending;
 use crate::event::Incoming;
 use crate::event_text::read_event;
 use crate::input::{InputFault, read_all};
-use crate::model::load_model;
+use crate::model_file::{has_colourless_scalars, load_model};
 use crate::prepared::prepare;
-use crate::process::read_process;
+use crate::process::load_process;
 use om_io::{Failed, Folder, Sink, Source, write_all};
 use om_model::{Model, Process};
 use om_ring::{Line, NoMemory, Ring, Steps};
 use std::alloc::Global;
 
 /// More bytes than the text of an event of 5 legs has.
-const MOST_BYTES: usize = 1024;
+const MOST_BYTES: usize = 2048;
 
 /// Answers the event of the input for the process that the text names in the model of the file.
 pub(crate) fn eval<R: Ring<Mark = L>, F: Folder, S: Source, O: Sink, L>(
@@ -41,19 +43,23 @@ pub(crate) fn eval<R: Ring<Mark = L>, F: Folder, S: Source, O: Sink, L>(
         let out = side O.written O.faults out.old out.new in
         EvalRan (R.ops ring.now) (R.text ring.now) file process.now input out result }
 {
-    let model = match load_model(alloc, files, name) {
+    let model = match load_model(alloc, ring, files, name, steps) {
         Ok(model) => model,
         Err(ending) => return ending,
     };
-    let process = match read_process(alloc, process) {
+    if !has_colourless_scalars(&model) {
+        return Ending::ModelNotBuilt;
+    }
+    let process = match load_process(alloc, &model, process) {
         Ok(process) => process,
         Err(ending) => return ending,
     };
     eval_process(alloc, ring, &model, &process, input, out, steps)
 }
 
-/// Answers the event of the input for a process. All memory is taken before anything is read or written.
-fn eval_process<R: Ring<Mark = L>, S: Source, O: Sink, L>(
+/// Answers the event of the input for a process of at most 5 legs over an accepted model of scalars of colour 1. All memory is
+/// taken before anything is read or written.
+pub(crate) fn eval_process<R: Ring<Mark = L>, S: Source, O: Sink, L>(
     alloc: Global,
     ring: &R,
     model: &Model,
@@ -63,10 +69,11 @@ fn eval_process<R: Ring<Mark = L>, S: Source, O: Sink, L>(
     steps: &mut Steps<L>,
 ) -> Ending
     requires few { length process.now.legs ≤ 5 }
-    requires model { model.now ≡ phi3 }
+    requires accepted { IsAccepted (R.ops ring.now) model.now }
+    requires scalars { HasColourlessScalars model.now }
     ensures { EvaluatesProcess (R.ops ring.now) (R.text ring.now) model.now process.now (side S.left S.faults input.old input.new) (side O.written O.faults out.old out.new) result }
 {
-    let Ok(mut prepared) = prepare(alloc, ring, model, process) else {
+    let Ok(mut prepared) = prepare(alloc, ring, model, process, steps) else {
         return Ending::NoMemory;
     };
     if prepared.diagrams.is_empty() {
@@ -120,7 +127,7 @@ fn write_answer<R: Ring, O: Sink>(
 }
 
 /// Writes a text.
-fn write_text<O: Sink>(out: &mut O, text: &[u8]) -> Ending
+pub(crate) fn write_text<O: Sink>(out: &mut O, text: &[u8]) -> Ending
     ensures { Writes (side O.written O.faults out.old out.new) text.now result }
 {
     match write_all(out, text) {

@@ -1,11 +1,12 @@
 //! The interactions of a model.
 ghost use Rattle.std.specs.Prelude.{◌≡◌, ◌<◌, ◌++◌, length, map, OnOk, IfOk, slice_get, Some};
 ghost use Rattle.om_model.specs.Model.{theory_of};
+ghost use Rattle.om_top.specs.Slots.{HasThreeOrFourSlots};
 ghost use Rattle.om_top.specs.TreeLists.{interactions_at, interactions_of, interactions as every_interaction};
 
 use crate::combinations::orders_of;
 use crate::lists::copy_of;
-use om_model::Model;
+use om_model::{Model, colour_row};
 use om_ring::{List, NoMemory};
 use std::alloc::Global;
 
@@ -18,11 +19,17 @@ pub(crate) struct Interaction {
     pub(crate) fields: List<u16>,
 }
 
-/// In how many ways colour lines can go through a vertex. Scalars have none, which is one way.
-fn choices_of(_model: &Model, _vertex: usize) -> usize
-    ensures { result ≡ (theory_of _model.now).choices _vertex }
+/// In how many ways colour lines can go through a vertex.
+fn choices_of(model: &Model, vertex: usize) -> usize
+    requires row { vertex < length model.now.vertices }
+    requires slots { HasThreeOrFourSlots model.now }
+    ensures { result ≡ (theory_of model.now).choices vertex }
 {
-    1
+    let fields = model.vertices.at(vertex).fields.as_slice();
+    match colour_row(model.particles.as_slice(), fields) {
+        Some(row) => usize::from(row.count()),
+        None => 0,
+    }
 }
 
 /// The interactions of one vertex row with one colour choice: each order of its fields once.
@@ -55,7 +62,8 @@ fn interactions_of(
     vertex: usize,
     found: &mut List<Interaction>,
 ) -> Result<(), NoMemory>
-    requires { vertex < length model.now.vertices }
+    requires row { vertex < length model.now.vertices }
+    requires slots { HasThreeOrFourSlots model.now }
     ensures { OnOk result (found.new ≡ found.old ++ interactions_of (theory_of model.now) vertex) }
 {
     for choice in 0..choices_of(model, vertex) {
@@ -67,6 +75,7 @@ fn interactions_of(
 /// The interactions of a model.
 #[tactic(auto, unfolding(crate::specs::TreeLists::interactions))]
 pub(crate) fn interactions(alloc: Global, model: &Model) -> Result<List<Interaction>, NoMemory>
+    requires { HasThreeOrFourSlots model.now }
     ensures { IfOk result (λ l. l ≡ every_interaction (theory_of model.now)) }
 {
     let mut found = List::new(alloc);

@@ -3,6 +3,7 @@
 
 mod answer;
 mod answer_text;
+mod check;
 mod combinations;
 mod command;
 mod cursor;
@@ -13,6 +14,7 @@ mod eval;
 mod evaluate;
 mod event;
 mod event_text;
+mod fault_text;
 mod input;
 mod interactions;
 pub mod laws;
@@ -20,7 +22,7 @@ mod limits;
 mod listing;
 mod lists;
 mod message;
-mod model;
+mod model_file;
 mod prepared;
 mod process;
 mod top;
@@ -29,5 +31,7 @@ pub use ending::Ending;
 pub use limits::{refuse_words, within_limits};
 pub use top::run;
 
+#[cfg(test)]
+mod evaluation_tests;
 #[cfg(test)]
 mod tests;

@@ -1,13 +1,15 @@
 //! What an evaluation takes before it reads an event.
-ghost use Rattle.std.specs.Prelude.{◌≡◌, ◌≤◌, IfOk, All, length, vec_len, replicate};
+ghost use Rattle.std.specs.Prelude.{◌≡◌, ◌≤◌, IfOk, All, length, map, vec_len, replicate};
+ghost use Rattle.om_model.specs.ModelTable.{number};
 ghost use Rattle.om_top.specs.Incoming.{HasPlaces};
-ghost use Rattle.om_top.specs.Numbers.{unit_numbers};
+ghost use Rattle.om_top.specs.Numbers.{HasParticleRows, HasRows, first_factor, with_particles};
 ghost use Rattle.om_top.specs.Prepared.{IsPrepared};
+ghost use Rattle.om_top.specs.Slots.{HasThreeOrFourSlots};
 
 use crate::diagrams::{Diagrams, list_diagrams};
 use crate::event::{Incoming, Table};
-use om_model::{Model, Process};
-use om_ring::{List, NoMemory, Ring};
+use om_model::{Model, Particle, Process, Vertex};
+use om_ring::{List, NoMemory, Numeral, Ring, Steps, value_of_product};
 use std::alloc::Global;
 
 /// The memory of an evaluation: the diagrams of the process, the numbers of the model, and a place for each leg of an event.
@@ -18,19 +20,23 @@ pub(crate) struct Prepared<E> {
     pub(crate) event: Vec<Incoming<E>>,
 }
 
-/// Takes all memory that the events of a process of at most 64 legs need.
-pub(crate) fn prepare<R: Ring>(
+/// Takes all memory that the events of a process of at most 64 legs need, and then computes the numbers of the model.
+pub(crate) fn prepare<R: Ring<Mark = L>, L>(
     alloc: Global,
     ring: &R,
     model: &Model,
     process: &Process,
+    steps: &mut Steps<L>,
 ) -> Result<Prepared<R::E>, NoMemory>
-    requires { length process.now.legs ≤ 64 }
+    requires legs { length process.now.legs ≤ 64 }
+    requires slots { HasThreeOrFourSlots model.now }
     ensures { IfOk result (λ x. IsPrepared (R.ops ring.now) model.now process.now x) }
 {
     let diagrams = list_diagrams(alloc, model, process)?;
-    let numbers = unit_numbers(alloc, ring, model)?;
+    let mut numbers = no_numbers(alloc, ring, model)?;
     let event = places(alloc, ring, process.legs.len())?;
+    set_factors(ring, model.vertices.as_slice(), &mut numbers.factors, steps);
+    set_particle_numbers(ring, model.particles.as_slice(), &mut numbers, steps);
     Ok(Prepared {
         diagrams,
         numbers,
@@ -38,18 +44,76 @@ pub(crate) fn prepare<R: Ring>(
     })
 }
 
-/// The numbers of a model without masses, of which each vertex has the factor 1 and each particle the norm 1.
-fn unit_numbers<R: Ring>(alloc: Global, ring: &R, model: &Model) -> Result<Table<R::E>, NoMemory>
-    ensures { IfOk result (λ t. t ≡ unit_numbers (R.ops ring.now) model.now) }
+/// A table with a place for each number of a model.
+fn no_numbers<R: Ring>(alloc: Global, ring: &R, model: &Model) -> Result<Table<R::E>, NoMemory>
+    ensures { IfOk result (λ t. HasRows model.now t) }
 {
     let vertices = model.vertices.len();
     let particles = model.particles.len();
     Ok(Table {
-        factors: repeated(alloc, ring.one(), vertices)?,
+        factors: repeated(alloc, ring.zero(), vertices)?,
         masses: repeated(alloc, ring.zero(), particles)?,
         widths: repeated(alloc, ring.zero(), particles)?,
-        norms: repeated(alloc, ring.one(), particles)?,
+        norms: repeated(alloc, ring.zero(), particles)?,
     })
+}
+
+/// The value of a product, or 0 where it has none. An accepted model has no product without value.
+fn number<R: Ring<Mark = L>, L>(ring: &R, product: &[Numeral], steps: &mut Steps<L>) -> R::E
+    ensures { result ≡ number (R.ops ring.now) product.now }
+{
+    match value_of_product(ring, product, steps) {
+        Some(value) => value,
+        None => ring.zero(),
+    }
+}
+
+/// The value of the first factor of a vertex, or 0 where it has none.
+fn first_factor<R: Ring<Mark = L>, L>(ring: &R, vertex: &Vertex, steps: &mut Steps<L>) -> R::E
+    ensures { result ≡ first_factor (R.ops ring.now) vertex.now }
+{
+    match vertex.factors.as_slice().first() {
+        Some(factor) => number(ring, factor.as_slice(), steps),
+        None => ring.zero(),
+    }
+}
+
+/// Puts the factor of each vertex in its place.
+fn set_factors<R: Ring<Mark = L>, L>(
+    ring: &R,
+    vertices: &[Vertex],
+    factors: &mut List<R::E>,
+    steps: &mut Steps<L>,
+)
+    requires { length factors.old ≡ length vertices.now }
+    ensures { factors.new ≡ map (first_factor (R.ops ring.now)) vertices.now }
+{
+    for (row, vertex) in vertices.iter().enumerate() {
+        factors.set(row, first_factor(ring, vertex, steps));
+    }
+}
+
+/// Puts the mass, the width and the norm of each particle in their places.
+fn set_particle_numbers<R: Ring<Mark = L>, L>(
+    ring: &R,
+    particles: &[Particle],
+    table: &mut Table<R::E>,
+    steps: &mut Steps<L>,
+)
+    requires { HasParticleRows particles.now table.old }
+    ensures { table.new ≡ with_particles (R.ops ring.now) table.old.factors particles.now }
+{
+    for (row, particle) in particles.iter().enumerate() {
+        table
+            .masses
+            .set(row, number(ring, particle.mass.as_slice(), steps));
+        table
+            .widths
+            .set(row, number(ring, particle.width.as_slice(), steps));
+        table
+            .norms
+            .set(row, number(ring, particle.norm.as_slice(), steps));
+    }
 }
 
 /// Places for what enters through so many legs.

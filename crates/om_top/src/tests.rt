@@ -9,16 +9,39 @@ use std::test::Fail;
 const PHI3: &str =
     "model = \"phi3\"\n[[particle]]\nname = \"phi\"\nanti = \"phi\"\nspin = \"scalar\"\n[[vertex]]\nfields = [\"phi\", \"phi\", \"phi\"]\nstructure = \"sss\"\nfactors = [\"1\"]\n";
 
-const USAGE: &str = "usage: omega eval MODEL PROCESS\n";
+const PHI34: &str =
+    "model = \"phi34\"\n[[particle]]\nname = \"phi\"\nanti = \"phi\"\nspin = \"scalar\"\n[[vertex]]\nfields = [\"phi\", \"phi\", \"phi\"]\nstructure = \"sss\"\nfactors = [\"1\"]\n[[vertex]]\nfields = [\"phi\", \"phi\", \"phi\", \"phi\"]\nstructure = \"ssss\"\nfactors = [\"1\"]\n";
+
+/// phi3 with a mass, without the quotation mark behind the mass.
+const MASSIVE: &str =
+    "model = \"phi3m\"\n[[vertex]]\nfields = [\"phi\", \"phi\", \"phi\"]\nstructure = \"sss\"\nfactors = [\"1\"]\n[[particle]]\nname = \"phi\"\nanti = \"phi\"\nspin = \"scalar\"\nmass = \"";
+
+const CS: &str =
+    "model = \"cs\"\n[[particle]]\nname = \"a\"\nanti = \"a~\"\nspin = \"scalar\"\n[[vertex]]\nfields = [\"a\", \"a\", \"a~\", \"a~\"]\nstructure = \"ssss\"\nfactors = [\"1\"]\n";
+
+const QED: &str =
+    "model = \"qed\"\n[[particle]]\nname = \"e-\"\nanti = \"e+\"\nspin = \"dirac\"\n[[particle]]\nname = \"mu-\"\nanti = \"mu+\"\nspin = \"dirac\"\n[[particle]]\nname = \"A\"\nanti = \"A\"\nspin = \"vector\"\n[[vertex]]\nfields = [\"e+\", \"e-\", \"A\"]\nstructure = \"ffv\"\nfactors = [\"1\", \"0\"]\n[[vertex]]\nfields = [\"mu+\", \"mu-\", \"A\"]\nstructure = \"ffv\"\nfactors = [\"1\", \"0\"]\n";
+
+/// A scalar of colour 8 beside that of phi3.
+const OCTET: &str =
+    "model = \"octet\"\n[[particle]]\nname = \"phi\"\nanti = \"phi\"\nspin = \"scalar\"\n[[particle]]\nname = \"o\"\nanti = \"o\"\nspin = \"scalar\"\ncolour = 8\n[[vertex]]\nfields = [\"phi\", \"phi\", \"phi\"]\nstructure = \"sss\"\nfactors = [\"1\"]\n";
+
+const SPIM: &str =
+    "model = \"phi3\"\n[[particle]]\nname = \"phi\"\nanti = \"phi\"\nspim = \"scalar\"\n[[vertex]]\nfields = [\"phi\", \"phi\", \"phi\"]\nstructure = \"sss\"\nfactors = [\"1\"]\n";
+
+const VSS: &str =
+    "model = \"vss\"\n[[particle]]\nname = \"V\"\nanti = \"V\"\nspin = \"vector\"\n[[particle]]\nname = \"s\"\nanti = \"s\"\nspin = \"scalar\"\n[[vertex]]\nfields = [\"V\", \"s\", \"s\"]\nstructure = \"vss\"\nfactors = [\"1\"]\n";
+
+const USAGE: &str = "usage: omega check MODEL, eval MODEL PROCESS\n";
 
 /// A run, and what it has to leave.
 #[derive(Clone, Copy)]
 struct Case {
     words: &'static [&'static str],
-    /// The file phi3.toml, where it is there.
+    /// The file model.toml, where it is there: so many copies of one text and an end.
     file: Option<&'static str>,
-    /// How often the file is repeated.
     copies: usize,
+    end: &'static str,
     input: &'static str,
     /// How many bytes a read gives at most.
     cut: usize,
@@ -35,9 +58,10 @@ struct Case {
 
 /// Two particles to two, where all goes well.
 const FOUR: Case = Case {
-    words: &["eval", "phi3.toml", "phi phi -> phi phi"],
+    words: &["eval", "model.toml", "phi phi -> phi phi"],
     file: Some(PHI3),
     copies: 1,
+    end: "",
     input: "1 1 0 0 0 1\n2 1 0 0 0 1\n3 1 0 0 0 1\n4 -3 0 0 0 1\n",
     cut: 1000,
     file_fails: 0,
@@ -52,7 +76,7 @@ const FOUR: Case = Case {
 
 /// One particle to two.
 const THREE: Case = Case {
-    words: &["eval", "phi3.toml", "phi -> phi phi"],
+    words: &["eval", "model.toml", "phi -> phi phi"],
     input: "1 1 0 0 0 1\n2 1 0 0 0 1\n3 -2 0 0 0 1\n",
     out: "1 - 281474976710656\n",
     ..FOUR
@@ -60,9 +84,17 @@ const THREE: Case = Case {
 
 /// Two particles to three.
 const FIVE: Case = Case {
-    words: &["eval", "phi3.toml", "phi phi -> phi phi phi"],
+    words: &["eval", "model.toml", "phi phi -> phi phi phi"],
     input: "1 1 0 0 0 1\n2 1 0 0 0 1\n3 1 0 0 0 1\n4 1 0 0 0 1\n5 -4 0 0 0 1\n",
     out: "1 - 12297975981160093014\n",
+    ..FOUR
+};
+
+/// What stands in a model. The input isn't read.
+const CHECK: Case = Case {
+    words: &["check", "model.toml"],
+    read_fails: 1,
+    out: "model phi3 particles 1 vertices 1\n",
     ..FOUR
 };
 
@@ -74,6 +106,7 @@ const NO_USAGE: Case = Case {
 };
 
 const NO_MODEL: Case = Case {
+    read_fails: 1,
     status: 3,
     out: "",
     err: "model: not built\n",
@@ -81,6 +114,7 @@ const NO_MODEL: Case = Case {
 };
 
 const NO_PROCESS: Case = Case {
+    read_fails: 1,
     status: 4,
     out: "",
     err: "process: not built\n",
@@ -94,7 +128,7 @@ const NO_EVENT: Case = Case {
     ..FOUR
 };
 
-/// Answers, refusals and faults.
+/// Answers, words, events and faults of the outside.
 const CASES: &[Case] = &[
     THREE,
     FOUR,
@@ -121,64 +155,29 @@ const CASES: &[Case] = &[
         ..THREE
     },
     Case {
+        input: "1 1 0 0 0 1/2\n2 1 0 0 0 -3/4i\n3 -2 0 0 0 1/1\n",
+        out: "1 - 11529215043384115201\n",
+        ..THREE
+    },
+    Case {
         words: &[],
         ..NO_USAGE
     },
     Case {
-        words: &["eval", "phi3.toml"],
+        words: &["check"],
         ..NO_USAGE
     },
     Case {
-        words: &["check", "phi3.toml", "phi -> phi phi"],
+        words: &["eval", "model.toml"],
         ..NO_USAGE
     },
     Case {
-        words: &["eval", "phi3.toml", "phi -> phi phi", "more"],
+        words: &["check", "model.toml", "phi -> phi phi"],
         ..NO_USAGE
     },
     Case {
-        words: &["eval", "other.toml", "phi -> phi phi"],
-        ..NO_MODEL
-    },
-    Case {
-        file: Some("model = \"phi4\"\n"),
-        ..NO_MODEL
-    },
-    Case {
-        copies: 2,
-        ..NO_MODEL
-    },
-    Case {
-        copies: 8000,
-        ..NO_MODEL
-    },
-    Case {
-        words: &["eval", "phi3.toml", "phi -> phi"],
-        ..NO_PROCESS
-    },
-    Case {
-        words: &["eval", "phi3.toml", "phi phi"],
-        ..NO_PROCESS
-    },
-    Case {
-        words: &["eval", "phi3.toml", "phi  -> phi phi"],
-        ..NO_PROCESS
-    },
-    Case {
-        words: &["eval", "phi3.toml", "phi -> phi chi"],
-        ..NO_PROCESS
-    },
-    Case {
-        words: &["eval", "phi3.toml", "phi phi -> phi phi phi phi"],
-        ..NO_PROCESS
-    },
-    Case {
-        words: &["eval", "phi3.toml", "phi phi phi phi phi phi -> phi"],
-        ..NO_PROCESS
-    },
-    Case {
-        words: &["eval", "phi3.toml", "phi -> -> phi phi"],
-        ..NO_PROCESS
+        words: &["eval", "model.toml", "phi -> phi phi", "more"],
+        ..NO_USAGE
     },
     Case {
         input: "",
@@ -210,6 +209,10 @@ const CASES: &[Case] = &[
     },
     Case {
         input: "1 1 0 0 0 1\n2 1 0 0 0 18446744073709551616\n3 1 0 0 0 1\n4 -3 0 0 0 1\n",
+        ..NO_EVENT
+    },
+    Case {
+        input: "1 1 0 0 0 1\n2 1 0 0 0 1/18446744069414584321\n3 1 0 0 0 1\n4 -3 0 0 0 1\n",
         ..NO_EVENT
     },
     Case {
@@ -267,6 +270,216 @@ const CASES: &[Case] = &[
     },
 ];
 
+/// Models and processes, read and refused.
+const MODEL_CASES: &[Case] = &[
+    CHECK,
+    Case {
+        file: Some(QED),
+        out: "model qed particles 3 vertices 2\n",
+        ..CHECK
+    },
+    Case {
+        file: Some(MASSIVE),
+        end: "-3/4i*2\"\n",
+        out: "model phi3m particles 1 vertices 1\n",
+        ..CHECK
+    },
+    Case {
+        file: None,
+        status: 7,
+        out: "",
+        err: "read fault: file\n",
+        ..CHECK
+    },
+    Case {
+        room: 9,
+        status: 8,
+        out: "model phi",
+        err: "write fault\n",
+        ..CHECK
+    },
+    Case {
+        words: &["check", "model.toml"],
+        file: Some(SPIM),
+        err: "model: UnknownKey at particle 1\n",
+        ..NO_MODEL
+    },
+    Case {
+        words: &["check", "model.toml"],
+        file: Some("#"),
+        copies: 1_048_577,
+        err: "model: too long\n",
+        ..NO_MODEL
+    },
+    Case {
+        file: Some(PHI34),
+        out: "1 - 70368744177664\n",
+        ..FOUR
+    },
+    Case {
+        file: Some(MASSIVE),
+        end: "1\"\n",
+        input: "1 0 0 0 0 1\n2 0 0 0 0 1\n3 0 0 0 0 1\n4 0 0 0 0 1\n5 0 0 0 0 1\n",
+        out: "1 - 4222124650659840\n",
+        ..FIVE
+    },
+    Case {
+        words: &["eval", "model.toml", "a a~ -> a a"],
+        file: Some(CS),
+        read_fails: 1,
+        out: "no amplitude\n",
+        ..FOUR
+    },
+    Case {
+        words: &["eval", "model.toml", "a a~ -> a a"],
+        file: Some(CS),
+        read_fails: 1,
+        room: 2,
+        status: 8,
+        out: "no",
+        err: "write fault\n",
+        ..FOUR
+    },
+    Case {
+        words: &["eval", "model.toml", "a a -> a a"],
+        file: Some(CS),
+        input: "1 1 0 0 0 1\n2 1 0 0 0 1\n3 -1 0 0 0 1\n4 -1 0 0 0 1\n",
+        out: "1 - 281474976710656\n",
+        ..FOUR
+    },
+    Case {
+        words: &["eval", "other.toml", "phi -> phi phi"],
+        err: "model: MissingKey at top 0\n",
+        ..NO_MODEL
+    },
+    Case {
+        file: Some("model = \"phi4\"\n"),
+        err: "model: MissingKey at top 0\n",
+        ..NO_MODEL
+    },
+    Case {
+        file: Some("phi3"),
+        err: "model: NotToml\n",
+        ..NO_MODEL
+    },
+    Case {
+        copies: 2,
+        err: "model: UnknownKey at vertex 1\n",
+        ..NO_MODEL
+    },
+    Case {
+        copies: 8000,
+        err: "model: too long\n",
+        ..NO_MODEL
+    },
+    Case {
+        file: Some("#"),
+        copies: 1_048_576,
+        err: "model: MissingKey at top 0\n",
+        ..NO_MODEL
+    },
+    Case {
+        file: Some("#"),
+        copies: 1_048_577,
+        err: "model: too long\n",
+        ..NO_MODEL
+    },
+    Case {
+        file: Some(SPIM),
+        err: "model: UnknownKey at particle 1\n",
+        ..NO_MODEL
+    },
+    Case {
+        file: Some(VSS),
+        err: "model: NotSymmetric at vertex 1\n",
+        ..NO_MODEL
+    },
+    Case {
+        file: Some(MASSIVE),
+        end: "1/18446744069414584321\"\n",
+        err: "model: NoInverse at particle 1\n",
+        ..NO_MODEL
+    },
+    Case {
+        file: Some(MASSIVE),
+        end: "18446744073709551616\"\n",
+        err: "model: BadNumber TooBig at particle 1\n",
+        ..NO_MODEL
+    },
+    Case {
+        file: Some(MASSIVE),
+        end: "1/0\"\n",
+        err: "model: BadNumber ZeroDen at particle 1\n",
+        ..NO_MODEL
+    },
+    Case {
+        file: Some(MASSIVE),
+        end: "1*0x\"\n",
+        err: "model: BadNumber BadByte at particle 1\n",
+        ..NO_MODEL
+    },
+    Case {
+        file: Some(MASSIVE),
+        end: "\"\n[[parameter]]\nname = \"m\"\nvalue = \"\"\n",
+        err: "model: BadNumber Empty at parameter 1\n",
+        ..NO_MODEL
+    },
+    Case {
+        file: Some(QED),
+        ..NO_MODEL
+    },
+    Case {
+        words: &["eval", "model.toml", "->"],
+        file: Some(QED),
+        ..NO_MODEL
+    },
+    Case {
+        file: Some(OCTET),
+        ..NO_MODEL
+    },
+    Case {
+        words: &["eval", "model.toml", "  phi  -> phi phi "],
+        ..THREE
+    },
+    Case {
+        words: &["eval", "model.toml", "phi -> phi"],
+        err: "process: 2 legs\n",
+        ..NO_PROCESS
+    },
+    Case {
+        words: &["eval", "model.toml", "phi phi"],
+        err: "process: syntax at byte 7\n",
+        ..NO_PROCESS
+    },
+    Case {
+        words: &["eval", "model.toml", "phi -> -> phi phi"],
+        err: "process: syntax at byte 7\n",
+        ..NO_PROCESS
+    },
+    Case {
+        words: &["eval", "model.toml", "phi -> phi chi"],
+        err: "process: unknown name at byte 11\n",
+        ..NO_PROCESS
+    },
+    Case {
+        words: &["eval", "model.toml", "phi phi -> phi phi phi phi"],
+        ..NO_PROCESS
+    },
+    Case {
+        words: &["eval", "model.toml", "phi phi phi phi phi phi -> phi"],
+        ..NO_PROCESS
+    },
+    Case {
+        words: &[
+            "eval",
+            "model.toml",
+            "phi phi phi phi phi phi phi phi phi phi -> phi",
+        ],
+        err: "process: 11 legs\n",
+        ..NO_PROCESS
+    },
+];
+
 fn texts(alloc: Global, words: &[&str]) -> Result<Vec<String>, Fail> {
     let mut texts = Vec::new(alloc);
     for word in words {
@@ -275,11 +488,12 @@ fn texts(alloc: Global, words: &[&str]) -> Result<Vec<String>, Fail> {
     Ok(texts)
 }
 
-fn repeated(alloc: Global, text: &str, copies: usize) -> Result<Vec<u8>, Fail> {
+fn repeated(alloc: Global, text: &str, copies: usize, end: &str) -> Result<Vec<u8>, Fail> {
     let mut bytes = Vec::new(alloc);
     for _ in 0..copies {
         bytes.extend_from_slice(text.as_bytes())?;
     }
+    bytes.extend_from_slice(end.as_bytes())?;
     Ok(bytes)
 }
 
@@ -294,10 +508,10 @@ fn check_case(rt: &impl Abort, alloc: Global, case: &Case) -> Result<(), Fail> {
     let words = texts(alloc, case.words)?;
     assert!(rt; within_limits(&words));
     let file = match case.file {
-        Some(text) => Some(repeated(alloc, text, case.copies)?),
+        Some(text) => Some(repeated(alloc, text, case.copies, case.end)?),
         None => None,
     };
-    let name = String::from_str(alloc, "phi3.toml")?;
+    let name = String::from_str(alloc, "model.toml")?;
     let mut files = MemFolder::new(name, file, vec![in alloc; case.file_fails]?);
     let bytes = case.input.as_bytes().to_vec(alloc)?;
     let mut input = MemSource::new(bytes, case.cut.max(1), vec![in alloc; case.read_fails]?);
@@ -316,6 +530,14 @@ fn check_case(rt: &impl Abort, alloc: Global, case: &Case) -> Result<(), Fail> {
 #[test]
 fn runs(rt: HostRuntime) -> Result<(), Fail> {
     for case in CASES {
+        check_case(&rt, rt.alloc(), case)?;
+    }
+    Ok(())
+}
+
+#[test]
+fn models_and_processes(rt: HostRuntime) -> Result<(), Fail> {
+    for case in MODEL_CASES {
         check_case(&rt, rt.alloc(), case)?;
     }
     Ok(())

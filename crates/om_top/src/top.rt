@@ -7,6 +7,7 @@ ghost use Rattle.om_top.specs.Message.{Told, status_of};
 ghost use Rattle.om_top.specs.Outside.{Outside, side};
 ghost use Rattle.om_top.specs.Ran.{Ran};
 
+use crate::check::check;
 use crate::command::{Command, command_of};
 use crate::ending::{Ending, status};
 use crate::eval::eval;
@@ -17,6 +18,7 @@ use std::alloc::Global;
 
 /// Does what the words after the program's name ask for, says on `err` how it ended, and answers the exit status.
 ///
+/// `check MODEL` reads the file MODEL and writes the name of the model and how many particles and vertices it has to `out`.
 /// `eval MODEL PROCESS` reads the file MODEL, then the events of the input, and writes their answers to `out`. All memory is
 /// taken before the first byte of the input is asked for. Each sum, product and inverse in `ring` is counted on `steps`.
 ///
@@ -67,6 +69,7 @@ fn perform<R: Ring<Mark = L>, F: Folder, S: Source, O: Sink, L>(
         Ran (R.ops ring.now) (R.text ring.now) (asked_of (map (λ w. string_bytes w) words.now)) outside result }
 {
     match command_of(words) {
+        Command::Check(name) => check(alloc, ring, files, name, out, steps),
         Command::Eval(name, process) => {
             eval(alloc, ring, files, name, process, input, out, steps)
         }

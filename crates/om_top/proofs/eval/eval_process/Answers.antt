@@ -1,4 +1,4 @@
-use Rattle.std.proofs.Common.{◌≡◌, ◌∙◌, List, length, vec_len, Result, Ok, Err, ap, sym, refl, subst, arith}
+use Rattle.std.proofs.Common.{◌≡◌, ◌∙◌, List, length, vec_len, Ok, Err, refl, subst, arith}
 use Rattle.om_ring.specs.Ops.{laws_from}
 use Rattle.om_model.specs.ScalarRules.{scalar_rules}
 use Rattle.om_model.specs.Lines.{no_lines}
@@ -6,14 +6,14 @@ use Rattle.om_model.specs.Answer.{IsAnswer}
 use Rattle.om_model.specs.Model.{scattering_of}
 use Rattle.om_top.specs.AnswerOf.{answer_of}
 use Rattle.om_top.specs.EventOf.{event_of, table_of}
-use Rattle.om_top.specs.Numbers.{unit_numbers}
+use Rattle.om_top.specs.Numbers.{model_numbers}
 use Rattle.om_top.specs.Outside.{side}
 use Rattle.om_top.specs.Stages.{ReadsInput}
-use Rattle.om_top.specs.declared.ending.Ending.{Ending}
 use Rattle.om_top.specs.declared.event.Incoming.{Incoming}
 use Rattle.om_top.proofs.EdgeSize.{short_answer}
 use Rattle.om_top.proofs.Evaluations.{no_diagram, some_diagram, without_diagram, without_event, with_answer}
 use Rattle.om_top.proofs.Places.{all_written}
+use Rattle.om_top.proofs.ScalarModels.{slots}
 use Rattle.om_top.proofs.eval.eval_process.Goals as goal
 
 pub returns-then-is_empty : goal.returns-then-is_empty
@@ -55,9 +55,12 @@ returns g c =
     let written : length c.read_input.new.event ≡ vec_len c.in-Ok.prepared.event = c.read_input.auto.event ∙ c.deref_mut.ensures.len in
     let places : c.deref.result.now ≡ c.read_input.new.event = c.deref.ensures.value ∙ all_written (vec_len c.in-Ok.prepared.event) c.read_input.new.event c.in-Ok.prepared.event.items written in
     let given : IsAnswer o s (scalar_rules o (table_of o c.in-Ok.prepared.numbers)) no_lines (event_of o c.deref.result.now) a = c.answer-answer.ensures s c.in-Ok.ensures.diagrams in
-    let at_units : IsAnswer o s (scalar_rules o (table_of o (unit_numbers o c.args.model.now))) no_lines (event_of o c.deref.result.now) a =
+    let at_units : IsAnswer o s (scalar_rules o (table_of o (model_numbers o c.args.model.now))) no_lines (event_of o c.deref.result.now) a =
     subst (λ (n : _). IsAnswer o s (scalar_rules o (table_of o n)) no_lines (event_of o c.deref.result.now) a) c.in-Ok.ensures.numbers given in
-    let answer : IsAnswer o s (scalar_rules o (table_of o (unit_numbers o c.args.model.now))) no_lines (event_of o c.read_input.new.event) a =
-    subst (λ (e : List (Incoming _)). IsAnswer o s (scalar_rules o (table_of o (unit_numbers o c.args.model.now))) no_lines (event_of o e) a) places at_units in
+    let answer : IsAnswer o s (scalar_rules o (table_of o (model_numbers o c.args.model.now))) no_lines (event_of o c.read_input.new.event) a =
+    subst (λ (e : List (Incoming _)). IsAnswer o s (scalar_rules o (table_of o (model_numbers o c.args.model.now))) no_lines (event_of o e) a) places at_units in
     let l = laws_from (g.R.Ring.element c.args.ring.now) o (g.met.R.Ring.known c.args.ring.now) (g.met.R.Ring.laws c.args.ring.now) in
-    with_answer o (g.R.Ring.text c.args.ring.now) c.args.model.now c.args.process.now input out l c.requires.model c.read_input.new.event c.write_answer.result a (some_diagram s (λ never. let so = (c.if-is_empty.ensures s c.in-Ok.ensures.diagrams).1 never in cc)) read answer c.write_answer.ensures
+    with_answer o (g.R.Ring.text c.args.ring.now) c.args.model.now c.args.process.now input out l c.requires.accepted c.requires.scalars c.read_input.new.event c.write_answer.result a (some_diagram s (λ never. let so = (c.if-is_empty.ensures s c.in-Ok.ensures.diagrams).1 never in cc)) read answer c.write_answer.ensures
+
+pub prepare-requires-clause-slots : goal.prepare-requires-clause-slots
+prepare-requires-clause-slots g c = slots (g.R.Ring.ops c.args.ring.now) c.args.model.now c.requires.accepted

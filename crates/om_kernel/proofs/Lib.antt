@@ -1,0 +1,10 @@
+pub mod SlotSums
+pub mod SlotOrders
+pub mod KnownSlots
+pub mod WrittenForms
+pub mod Readings
+pub mod PairForms
+pub mod ThreeVectors
+pub mod FusedForms
+pub mod ClosedForms
+pub mod EdgeSolved

@@ -1,0 +1,7 @@
+pub mod Waves
+pub mod IndexSums
+pub mod Components
+pub mod Forms
+pub mod Calls
+pub mod EdgeForms
+pub mod EdgeSums

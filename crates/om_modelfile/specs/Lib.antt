@@ -1,0 +1,11 @@
+pub mod Faults
+pub mod Each
+pub mod Keys
+pub mod Texts
+pub mod Parameters
+pub mod Products
+pub mod Particles
+pub mod Vertices
+pub mod ModelOf
+pub mod Views
+pub mod Laws

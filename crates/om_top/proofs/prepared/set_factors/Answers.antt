@@ -1,0 +1,14 @@
+use Rattle.std.proofs.Common.{◌<◌, arith, length}
+use Rattle.om_top.specs.Numbers.{first_factor}
+use Rattle.om_top.proofs.Places.{set_next, set_size}
+use Rattle.om_top.proofs.prepared.set_factors.Goals as goal
+
+pub loop-row-preserved : goal.loop-row-preserved
+loop-row-preserved g c =
+    let vs = c.args.vertices.now in
+    let row = c.loop-row.row in
+    let within : row < length vs = omega arith in
+    record {
+      values = set_next (first_factor (g.R.Ring.ops c.args.ring.now)) vs row c.index-vertices-row.result c.first_factor.result c.args.factors.now c.loop-row.factors c.set.new.self c.requires within c.index-vertices-row.is c.first_factor.ensures c.loop-row.invariant.values c.set.ensures;
+      size = set_size c.loop-row.factors c.set.new.self row (length c.args.factors.now) c.first_factor.result c.set.ensures c.loop-row.invariant.size;
+    }

@@ -1,0 +1,43 @@
+use Rattle.std.proofs.Common.{◌<◌, ◌≤◌, ◌∙◌, ap, arith, length}
+use Rattle.om_model.specs.ModelTable.{number}
+use Rattle.om_model.specs.declared.model.Particle.{Particle}
+use Rattle.om_top.specs.Numbers.{with_particles}
+use Rattle.om_top.proofs.Places.{same_table, set_all, set_next, set_size}
+use Rattle.om_top.proofs.prepared.set_particle_numbers.Goals as goal
+
+pub loop-row-preserved : goal.loop-row-preserved
+loop-row-preserved g c =
+    let o = g.R.Ring.ops c.args.ring.now in
+    let ps = c.args.particles.now in
+    let row = c.loop-row.row in
+    let p = c.index-particles-row.result in
+    let t = c.args.table.now in
+    let now = c.loop-row.table in
+    let inv = c.loop-row.invariant in
+    let at = c.index-particles-row.is in
+    let within : row < length ps = omega arith in
+    record {
+      factors = inv.factors;
+      masses = set_next (λ (p : Particle). number o p.mass) ps row p c.number.result t.masses now.masses c.set.new.self c.requires.masses within at (c.number.ensures ∙ ap (number o) c.as_slice.ensures) inv.masses c.set.ensures;
+      widths = set_next (λ (p : Particle). number o p.width) ps row p c.number-in-loop-row.result t.widths now.widths c.set-in-loop-row.new.self c.requires.widths within at (c.number-in-loop-row.ensures ∙ ap (number o) c.as_slice-in-loop-row.ensures) inv.widths c.set-in-loop-row.ensures;
+      norms = set_next (λ (p : Particle). number o p.norm) ps row p c.number-in-loop-row-2.result t.norms now.norms c.set-in-loop-row-2.new.self c.requires.norms within at (c.number-in-loop-row-2.ensures ∙ ap (number o) c.as_slice-in-loop-row-2.ensures) inv.norms c.set-in-loop-row-2.ensures;
+      rows = record {
+        masses = set_size now.masses c.set.new.self row (length ps) c.number.result c.set.ensures inv.rows.masses;
+        widths = set_size now.widths c.set-in-loop-row.new.self row (length ps) c.number-in-loop-row.result c.set-in-loop-row.ensures inv.rows.widths;
+        norms = set_size now.norms c.set-in-loop-row-2.new.self row (length ps) c.number-in-loop-row-2.result c.set-in-loop-row-2.ensures inv.rows.norms;
+      };
+    }
+
+pub returns : goal.returns
+returns g c =
+    let o = g.R.Ring.ops c.args.ring.now in
+    let ps = c.args.particles.now in
+    let row = c.loop-row.row in
+    let t = c.args.table.now in
+    let now = c.loop-row.table in
+    let inv = c.loop-row.invariant in
+    let past : length ps ≤ row = omega arith in
+    same_table now (with_particles o t.factors ps) inv.factors
+    (set_all (λ (p : Particle). number o p.mass) ps row t.masses now.masses c.requires.masses past inv.masses)
+    (set_all (λ (p : Particle). number o p.width) ps row t.widths now.widths c.requires.widths past inv.widths)
+    (set_all (λ (p : Particle). number o p.norm) ps row t.norms now.norms c.requires.norms past inv.norms)

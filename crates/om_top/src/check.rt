@@ -1,0 +1,48 @@
+//! `check` tells what stands in a model.
+ghost use Rattle.std.specs.Prelude.{◌≡◌, []};
+ghost use Rattle.om_top.specs.CheckRan.{CheckRan, check_text};
+ghost use Rattle.om_top.specs.Outside.{side};
+
+use crate::ending::Ending;
+use crate::eval::write_text;
+use crate::model_file::load_model;
+use om_io::{Folder, Sink};
+use om_model::Model;
+use om_ring::{Line, Ring, Steps};
+use std::alloc::Global;
+
+/// Writes the name of the model of the file, and how many particles and vertices it has.
+pub(crate) fn check<R: Ring<Mark = L>, F: Folder, O: Sink, L>(
+    alloc: Global,
+    ring: &R,
+    files: &mut F,
+    name: &str,
+    out: &mut O,
+    steps: &mut Steps<L>,
+) -> Ending
+    ensures { let file = side (λ f. F.file f name.now) (λ f. F.faults f name.now) files.old files.new in
+        let out = side O.written O.faults out.old out.new in
+        CheckRan (R.ops ring.now) file out result }
+{
+    let model = match load_model(alloc, ring, files, name, steps) {
+        Ok(model) => model,
+        Err(ending) => return ending,
+    };
+    let mut line = Line::new();
+    push_check(&model, &mut line);
+    write_text(out, line.bytes())
+}
+
+/// Appends the line that `check` writes.
+fn push_check(model: &Model, line: &mut Line)
+    requires { line.old ≡ [] }
+    ensures { line.new ≡ check_text model.now }
+{
+    line.push(b"model ");
+    line.push(model.name.bytes());
+    line.push(b" particles ");
+    line.push_number(model.particles.len() as u64);
+    line.push(b" vertices ");
+    line.push_number(model.vertices.len() as u64);
+    line.push(b"\n");
+}
