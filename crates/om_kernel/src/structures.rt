@@ -485,12 +485,7 @@ fn vvvv_pairs<R: Ring<Mark = L>, L>(
     let b = ring.mul(ring.imag(), b, steps);
     let c = ring.mul(ring.imag(), c, steps);
     match hole {
-        1 => Pairs {
-            next: c,
-            crossed: b,
-            last: a,
-        },
-        3 => Pairs {
+        1 | 3 => Pairs {
             next: c,
             crossed: b,
             last: a,
