@@ -24,7 +24,7 @@ mod texts;
 pub use joining::{close, join};
 pub use partials::partial_of_leg;
 pub use table::{ColourRow, pattern};
-pub use texts::{flow_text, partial_text};
+pub use texts::{Extent, flow_text, partial_text};
 
 /// The colour of a field as it enters a vertex. The antiparticle has 3 and -3 exchanged.
 #[derive(Clone, Copy, PartialEq, Eq, Debug)]

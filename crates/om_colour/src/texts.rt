@@ -5,10 +5,12 @@ ghost use Rattle.om_colour.specs.Texts.{end_text, flow_bytes, line_item, line_it
 use crate::{Flow, Partial, UPWARDS};
 use om_ring::Line;
 
-// What a text shows the lines of.
+/// What a text shows the lines of.
 #[derive(Clone, Copy)]
-enum Extent {
+pub enum Extent {
+    /// All of a diagram.
     Diagram,
+    /// One side of an edge.
     Side,
 }
 
@@ -16,7 +18,8 @@ enum Extent {
 /// between, and `-` where there is no line. Wants 80 free bytes, which suffice for any ends.
 pub fn flow_text(flow: &Flow, to: &mut Line)
     requires { length to.old + 80 ≤ 512 }
-    ensures { to.new ≡ to.old ++ flow_bytes flow.now }
+    ensures text { to.new ≡ to.old ++ flow_bytes flow.now }
+    ensures short { length to.new ≤ length to.old + 80 }
 {
     let count = push_lines(to, Extent::Diagram, &flow.ends);
     if count == 0 {

@@ -139,8 +139,16 @@ impl LegSet {
         }
     }
 
-    /// The number of the set.
-    pub(crate) fn number(self) -> u16
+    /// The set with a number below 2^12, in which leg k counts 2^(k - 1).
+    pub fn from_number(number: u16) -> LegSet
+        requires { IsLegSet number }
+        ensures { result ≡ number }
+    {
+        LegSet { bits: number }
+    }
+
+    /// The number of the set, in which leg k counts 2^(k - 1).
+    pub fn number(self) -> u16
         ensures same { result ≡ self }
         ensures valid { IsLegSet self }
     {

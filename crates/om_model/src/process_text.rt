@@ -45,7 +45,10 @@ pub fn read_process(alloc: Global, model: &Model, text: &[u8]) -> Result<Process
     if count < 3 || count > 10 {
         return Err(ProcessFault::Legs(count));
     }
-    Ok(Process { legs })
+    Ok(Process {
+        legs,
+        edges: List::new(alloc),
+    })
 }
 
 // The place of the first token that may not stand where it stands, or the length where something is missing.
@@ -185,8 +188,8 @@ fn leg_of(particles: &[Particle], outgoing: bool, field: u16) -> Leg
     }
 }
 
-// The other field of the same row, or the field itself where the particle is its own antiparticle.
-fn anti_field(particles: &[Particle], field: u16) -> u16
+/// The other field of the same row, or the field itself where the particle is its own antiparticle.
+pub fn anti_field(particles: &[Particle], field: u16) -> u16
     ensures { result ≡ anti_field_of particles.now field }
 {
     match particles.get(usize::from(field / 2)) {
