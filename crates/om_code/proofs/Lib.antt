@@ -1,0 +1,15 @@
+pub mod Counting
+pub mod DenOrder
+pub mod DistinctMembers
+pub mod FirstFit
+pub mod FirstRow
+pub mod Groups
+pub mod Instrs
+pub mod OneMeaning
+pub mod PlacedFinds
+pub mod PlacedRuns
+pub mod SpanFacts
+pub mod VerifiedFacts
+pub mod Worked
+pub mod Carried
+pub mod ContentRuns
