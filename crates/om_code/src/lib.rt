@@ -12,6 +12,8 @@ pub mod laws;
 mod lines;
 mod operands;
 mod phases;
+mod plain;
+mod plain_instrs;
 mod rows;
 mod slots;
 mod steps;
@@ -20,8 +22,12 @@ mod verifier;
 
 pub use code::{Code, CodeFault, CodeKind, Den, Instr};
 pub use operands::Operands;
+pub use plain::is_plain;
 pub use slots::{
     Entering, Held, Phase, advance, at_start, branches_held, fused, held_at, slots_of_vertex,
 };
 pub use verified::Verified;
 pub use verifier::verify;
+
+#[cfg(test)]
+mod tests;
