@@ -17,6 +17,7 @@ use Rattle.om_code.specs.Slots.{after, at_start, held_before, is_gathering}
 use Rattle.om_code.specs.Readable.{IsLegOf}
 use Rattle.om_code.specs.Rules.{KeepsRules, is_slot, size_of}
 use Rattle.om_code.specs.Lines.{IsFirstBreak, IsFirstKind, StepBreaks, behind_flows, behind_legs, behind_slots, end_line, flow_lines, instr_lines, leg_lines, rank, slots_line, slots_lines, then_lines}
+use Rattle.om_code.proofs.FirstRow.{row-at}
 use Rattle.om_code.proofs.Groups.{Refutes, in-first, in-rest}
 
 some_is : {A : Type 0} (x y : A) → Some x ≡ Some y → x ≡ y
@@ -53,6 +54,10 @@ take-with xs k x at = take_more xs k x (slice_get_within xs k x at) ∙ ap (λ y
 
 pub held-more : (c : Code) (k : ℕ) (i : Instr) → slice_get c.instrs k ≡ Some i → after c (held_before c k) i ≡ held_before c (k + 1)
 held-more c k i at = sym (ap (fold (after c) (at_start c)) (take-with c.instrs k i at) ∙ fold-append (after c) (at_start c) (take k c.instrs) i)
+
+-- the instruction that a loop over a slice is at
+pub instr-at : (c : Code) (xs : List Instr) (n : ℕ) (i : Instr) → xs ≡ c.instrs → n < length xs → i ≡ get_or xs n i → slice_get c.instrs n ≡ Some i
+instr-at c xs n i same lt is = row-at xs c.instrs n i same lt is
 
 le-true : (m n : ℕ) → nat_le m n ≡ true → m ≤ n
 le-true m n h = grind (arith, nat_tests)

@@ -1,6 +1,6 @@
 pub mod Counting
 pub mod DenOrder
-pub mod DistinctMembers
+pub mod Members
 pub mod FirstFit
 pub mod FirstRow
 pub mod Groups

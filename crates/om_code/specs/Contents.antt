@@ -18,7 +18,7 @@ use Rattle.om_code.specs.declared.code.Code.{Code}
 use Rattle.om_code.specs.declared.slots.Held.{Held}
 use Rattle.om_code.specs.declared.slots.Phase.TheVariants.{Gathering, Ready}
 use Rattle.om_code.specs.Rules.{size_of}
-use Rattle.om_code.specs.Slots.{nothing, nodes_of, union_of, left_field, field_or_0, field_of_leg, slots_of_vertex}
+use Rattle.om_code.specs.Slots.{nothing, fields_of, nodes_of, union_of, left_field, field_or_0, field_of_leg, slots_of_vertex}
 use Rattle.om_code.specs.Waves.{Incoming, momentum_behind, plus_wave, signed_wave, wave_of, wave_of_leg, zero_wave}
 use Rattle.om_code.specs.Vertices.{hole_by, reading_of_vertex, sorted_into, structure_of}
 use Rattle.om_code.specs.Meaning.{factor_at, sums_of}
@@ -69,7 +69,11 @@ module _ {E : Type 0} (o : Ops E) (c : Code) (t : Table E) (e : Incoming E) wher
 
   -- the legs and the field that a vertex makes
   unfoldable pub fused_of : ℕ → List Held → Held
-  fused_of vertex hs = record { phase = Gathering; legs = union_of 0 hs; field = anti_field c.model.particles (field_or_0 (left_field (slots_of_vertex c vertex) (map (λ h. h.field) hs))) }
+  fused_of vertex hs = record {
+    phase = Gathering;
+    legs = union_of 0 hs;
+    field = anti_field c.model.particles (field_or_0 (left_field (slots_of_vertex c vertex) (fields_of hs)));
+  }
 
   -- the edge that leads upwards from what a vertex makes
   abbrev pub upwards_of : Held → EnteringWave E
@@ -90,7 +94,8 @@ module _ {E : Type 0} (o : Ops E) (c : Code) (t : Table E) (e : Incoming E) wher
 
   -- a wave of some legs and a field that has gone over its edge
   unfoldable pub wave_over : ℕ → Held → Wave E → Wave E
-  wave_over den h w = wave_of (kind_of w) (λ n. o.times (factor_at o c t e (slice_get c.dens den)) (edge_sum o (t.mass (h.field / 2)) (momentum_behind o e h.legs) w n))
+  wave_over den h w = wave_of (kind_of w)
+      (λ n. o.times (factor_at o c t e (slice_get c.dens den)) (edge_sum o (t.mass (h.field / 2)) (momentum_behind o e h.legs) w n))
 
   unfoldable pub moved_content : ℕ → Content E → Content E
   moved_content den w = (record w.0 { phase = Ready }, wave_over den w.0 w.1)
@@ -99,10 +104,12 @@ module _ {E : Type 0} (o : Ops E) (c : Code) (t : Table E) (e : Incoming E) wher
   unfoldable pub made_number : Bool → ℕ → ℕ → List (EnteringWave E) → E
   made_number minus vertex choice entered =
       let qs = waves_in_slots (slots_of_vertex c vertex) entered in
-      signed o minus (o.times o.imag (full_sum o (structure_of c vertex) (reading_of_vertex c vertex choice) (factors_of o (t.factors vertex)) (slots_of qs)))
+      let reading = reading_of_vertex c vertex choice in
+      signed o minus (o.times o.imag (full_sum o (structure_of c vertex) reading (factors_of o (t.factors vertex)) (slots_of qs)))
 
   unfoldable pub summed_content : ℕ → Bool → ℕ → ℕ → List (Content E) → List E → List E
-  summed_content flow minus vertex choice ws sums = slice_set sums flow (o.plus (slice_index_or sums flow o.zero) (made_number minus vertex choice (map entering ws)))
+  summed_content flow minus vertex choice ws sums =
+      slice_set sums flow (o.plus (slice_index_or sums flow o.zero) (made_number minus vertex choice (map entering ws)))
 
   abbrev pub step_at : Instr → Step (Content E) (List E)
   step_at (Load to leg) = load to (record { phase = Ready; legs = set_of_one leg; field = field_of_leg c leg }, wave_of_leg o e leg)
@@ -136,4 +143,5 @@ NamesSlots n (Key flow minus vertex choice b) = AllByRecursion (λ k. k < n) (no
 -- the sums of a code of version 2 are those of the register machine whose registers are the slots
 abbrev pub MeaningIsRun : {E : Type 0} → Ops E → Type 0
 MeaningIsRun {E} o = (c : Code) (t : Table E) (e : Incoming E) → c.version ≡ 2 → AllByRecursion (NamesSlots c.slots) c.instrs →
-    sums_of o c t e ≡ (run (plus_content o c t e) (map (step_at o c t e) c.instrs) (start (empty_content o c t e) (replicate (length c.flows) o.zero))).sums
+    (let first = start (empty_content o c t e) (replicate (length c.flows) o.zero) in
+    sums_of o c t e ≡ (run (plus_content o c t e) (map (step_at o c t e) c.instrs) first).sums)

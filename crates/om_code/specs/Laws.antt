@@ -51,11 +51,13 @@ abbrev pub PlansKeepSums : (W S : Type 0) → (W → W → W) → Type 0
 PlansKeepSums W S plus = (blank : W) (sums : S) (xs : List (Step W S)) (plan : ℕ → ℕ) → AreWhole plus blank sums xs → IsSlotPlan (lines_of xs) plan →
     (run plus (map (placed plan) xs) (start blank sums)).sums ≡ (run plus xs (start blank sums)).sums
 
--- with the slots of any slot plan each instruction finds what it found in the registers, no slot gathers in the end, and no fuse has its own slot among its branches where none had its own register
+-- with the slots of any slot plan each instruction finds what it found in the registers, no slot gathers in the end, and no fuse has
+-- its own slot among its branches where none had its own register
 pub record KeepsFinds {W S : Type 0} (plus : W → W → W) (blank : W) (sums : S) (xs : List (Step W S)) (plan : ℕ → ℕ) : Type 0 where
   pub finds : finds plus (map (placed plan) xs) (start blank sums) ≡ finds plus xs (start blank sums)
   pub settled : (k : ℕ) → (run plus (map (placed plan) xs) (start blank sums)).gathering k ≡ false
   pub apart : AreApart xs → AreApart (map (placed plan) xs)
 
 abbrev pub PlansKeepFinds : (W S : Type 0) → (W → W → W) → Type 0
-PlansKeepFinds W S plus = (blank : W) (sums : S) (xs : List (Step W S)) (plan : ℕ → ℕ) → AreWhole plus blank sums xs → IsSlotPlan (lines_of xs) plan → KeepsFinds plus blank sums xs plan
+PlansKeepFinds W S plus = (blank : W) (sums : S) (xs : List (Step W S)) (plan : ℕ → ℕ) → AreWhole plus blank sums xs → IsSlotPlan (lines_of xs) plan →
+    KeepsFinds plus blank sums xs plan

@@ -77,7 +77,10 @@ module _ (c : Code) where
   slots_lines = cond (c.version == 1) 0 1
 
   abbrev pub slots_line : Group
-  slots_line = record { keeps = HasFewSlots c; breaks = λ k kind. (kind ≡ kinds.Number) × (k ≡ 0) × (c.version ≢ 1) × (length c.instrs < c.slots) }
+  slots_line = record {
+    keeps = HasFewSlots c;
+    breaks = λ k kind. (kind ≡ kinds.Number) × (k ≡ 0) × (c.version ≢ 1) × (length c.instrs < c.slots);
+  }
 
   abbrev pub instr_lines : Group
   instr_lines = record {
@@ -86,7 +89,10 @@ module _ (c : Code) where
   }
 
   abbrev pub end_line : Group
-  end_line = record { keeps = IsSettled c; breaks = λ k kind. (kind ≡ kinds.Register) × (k ≡ 0) × (list_any is_gathering (held_before c (length c.instrs)) ≡ true) }
+  end_line = record {
+    keeps = IsSettled c;
+    breaks = λ k kind. (kind ≡ kinds.Register) × (k ≡ 0) × (list_any is_gathering (held_before c (length c.instrs)) ≡ true);
+  }
 
   -- the lines from the first instruction on, from the line of the slots on, and so on
   abbrev pub behind_slots : Group
@@ -144,7 +150,9 @@ module _ (c : Code) where
 abbrev pub IsFirstBreak : Group → Option Break → Type 0
 IsFirstBreak g None = g.keeps
 IsFirstBreak g (Some b) =
-    g.breaks b.at b.kind × ((kind : CodeKind) → rank kind < rank b.kind → g.breaks b.at kind → ⊥) × ((k : ℕ) (kind : CodeKind) → k < b.at → g.breaks k kind → ⊥)
+    g.breaks b.at b.kind
+    × ((kind : CodeKind) → rank kind < rank b.kind → g.breaks b.at kind → ⊥)
+    × ((k : ℕ) (kind : CodeKind) → k < b.at → g.breaks k kind → ⊥)
 
 -- a break, counted from n lines before
 abbrev pub moved : ℕ → Break → Break

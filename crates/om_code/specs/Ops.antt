@@ -38,7 +38,8 @@ placed_op plan (fuse to minus vertex choice branches) = fuse (plan to) minus ver
 placed_op plan (prop of den) = prop (plan of) den
 placed_op plan (key flow minus vertex choice branches) = key flow minus vertex choice (map plan branches)
 
--- what instructions mean: the wave of a leg, the signed wave that a vertex makes of its branches, what the propagator of a den makes of a wave, and what a keystone adds to the sums
+-- what instructions mean: the wave of a leg, the signed wave that a vertex makes of its branches, what the propagator of a
+-- denominator makes of a wave, and what a keystone adds to the sums
 pub record Meaning (W S : Type 0) : Type 0 where
   pub loaded : ℕ → W
   pub fused : Bool → ℕ → ℕ → List W → W

@@ -137,7 +137,8 @@ module _ (c : Code) where
         are_in_order 0 (branches_held st b) && leaves_one (left_field (slots_of_vertex c vertex) (fields_of (branches_held st b)))
         && adds_to (held_at st to) (fused c st vertex b)
     fits (Prop of den) = is_den_of (held_at st of) (slice_get c.dens den)
-    fits (Key flow minus vertex choice b) = are_in_order 0 (branches_held st b) && same_numbers (fields_of (branches_held st b)) (slots_of_vertex c vertex)
+    fits (Key flow minus vertex choice b) =
+        are_in_order 0 (branches_held st b) && same_numbers (fields_of (branches_held st b)) (slots_of_vertex c vertex)
 
     -- an instruction keeps the rules, where the slots hold this before it
     pub record KeepsRules (i : Instr) : Type 0 where

@@ -53,6 +53,7 @@ abbrev pub slot_or_0 : Option ℕ → ℕ
 slot_or_0 (Some k) = k
 slot_or_0 None = 0
 
--- the first-fit plan: at the instruction that first names a register it gives it the least number, from 0, of no earlier register whose span holds that instruction
+-- the first-fit plan: at the instruction that first names a register it gives it the least number, from 0, of no earlier register
+-- whose span holds that instruction
 unfoldable pub first_fit : List (List ℕ) → ℕ → ℕ
 first_fit lines r = slot_or_0 (slot_in (given_before lines (length lines)) r)

@@ -5,23 +5,25 @@ use om_legs::{Branches, LegSet};
 use om_model::Model;
 use om_ring::List;
 
-/// A denominator: the legs on the side of an inner edge that leg 1 isn't on, and the field that leaves that side. In order of
-/// the set of legs as a number, then of the field.
+/// A denominator: an inner edge by its side without leg 1. In order of the set of legs as a number, then of the field.
 #[derive(Clone, Copy, PartialEq, Eq, PartialOrd, Ord, Debug)]
 pub struct Den {
+    /// The legs on the side that leg 1 isn't on.
     pub legs: LegSet,
+    /// The field that leaves that side.
     pub field: u16,
 }
 
-/// An instruction. Numbers count from 0, but a leg counts from 1.
+/// An instruction. Numbers count from 0, but a leg counts from 1. `vertex` is a row of the vertices and `choice` a colour choice
+/// of it; the branches are slots, in order of the least leg behind each; `minus` turns the sign.
 #[derive(Clone, Copy, PartialEq, Eq, Debug)]
 pub enum Instr {
-    /// Puts the wave of a leg into a slot.
+    /// Puts the wave of a leg into slot `to`.
     Load {
         to: u32,
         leg: u8,
     },
-    /// Adds the signed wave that a vertex makes of the branches to a slot that gathers; another slot begins to gather with it.
+    /// Adds the wave that a vertex makes of the branches to slot `to` where that gathers; else the slot begins to gather with it.
     Fuse {
         to: u32,
         minus: bool,
@@ -29,12 +31,12 @@ pub enum Instr {
         choice: u8,
         branches: Branches,
     },
-    /// Takes the wave of a slot over the inner edge with this denominator.
+    /// Takes the wave in slot `of` over the inner edge with the denominator in row `den`; the slot is ready then.
     Prop {
         of: u32,
         den: u32,
     },
-    /// Adds the signed number that a vertex makes of the branches to a flow.
+    /// Adds the number that a vertex makes of the branches to the flow in row `flow`.
     Key {
         flow: u32,
         minus: bool,
@@ -50,19 +52,22 @@ pub struct Code {
     /// 1 or 2.
     pub version: u8,
     pub model: Model,
-    /// The field that enters through each leg.
+    /// The field that enters through each leg; leg k stands at place k - 1.
     pub legs: List<u16>,
+    /// The colour flows, in order; the machine has a sum for each.
     pub flows: List<Flow>,
+    /// The denominators of inner edges, in order.
     pub dens: List<Den>,
-    /// How many slots there are.
+    /// How many slots there are; in version 1 the greatest register that a load or a fuse names, counted from 1, or 0.
     pub slots: u32,
+    /// The loads, then what is fused, then the keys.
     pub instrs: List<Instr>,
 }
 
 /// The rules of programs. In a line they are tried in the order of the enum, but `Sets` before `Fit`.
 #[derive(Clone, Copy, PartialEq, Eq, Debug)]
 pub enum CodeKind {
-    /// A row breaks a rule of models: a repeated name, a bad pattern, a limit.
+    /// A row breaks a rule of models: a repeated name, a bad pattern, a limit; or there are more than 64 particles or 512 vertices.
     Row,
     /// More than twelve legs, or fewer than three.
     Legs,
@@ -72,7 +77,7 @@ pub enum CodeKind {
     Den,
     /// A leg, vertex, choice, flow, denominator or slot that doesn't exist; or more slots than instructions.
     Number,
-    /// A slot isn't in the phase that the instruction needs.
+    /// A slot isn't in the phase that the instruction needs, or gathers at the end.
     Register,
     /// The fields or the order of the branches, the field or legs of a further fuse, or the denominator don't fit.
     Fit,
@@ -83,7 +88,7 @@ pub enum CodeKind {
 /// Why a program isn't verified.
 #[derive(Clone, Copy, PartialEq, Eq, Debug, Drop)]
 pub enum CodeFault {
-    /// The first line of its text that breaks a rule, and the first rule that it breaks.
+    /// The first line of its text, counted from 1, that breaks a rule, and the first rule that it breaks.
     Broken { line: u32, kind: CodeKind },
     /// Want of memory.
     Memory,

@@ -31,16 +31,16 @@ pub(crate) fn has_sets(code: &Code, held: &[Held], instr: &Instr) -> bool
     }
 }
 
-/// Whether the branches share no leg, and have as many legs as one side of an inner edge may have.
+// Whether the branches share no leg, and have as many legs as one side of an inner edge may have.
 fn can_be_inner(code: &Code, branches: &[Held]) -> bool
     requires few_legs { size_of code.now ≤ 12 }
-    ensures { IsTrue result ↔ (AreApart 0 branches.now × (2 ≤ size (union_of 0 branches.now)) × (size (union_of 0 branches.now) + 2 ≤ size_of code.now)) }
+    ensures { let all = union_of 0 branches.now in IsTrue result ↔ (AreApart 0 branches.now × (2 ≤ size all) × (size all + 2 ≤ size_of code.now)) }
 {
     let size = usize::from(union_of(branches).size());
     are_apart(branches) && 2 <= size && size + 2 <= code.legs.len()
 }
 
-/// Whether the branches share out all legs.
+// Whether the branches share out all legs.
 fn share_out_all(code: &Code, branches: &[Held]) -> bool
     requires some_legs { 1 ≤ size_of code.now }
     requires few_legs { size_of code.now ≤ 12 }
@@ -49,7 +49,7 @@ fn share_out_all(code: &Code, branches: &[Held]) -> bool
     are_apart(branches) && union_of(branches) == LegSet::all(code.legs.len() as u8)
 }
 
-/// Whether no two branches share a leg.
+// Whether no two branches share a leg.
 fn are_apart(branches: &[Held]) -> bool
     ensures { IsTrue result ↔ AreApart 0 branches.now }
 {
@@ -63,7 +63,7 @@ fn are_apart(branches: &[Held]) -> bool
     true
 }
 
-/// Whether the least legs of the branches rise.
+// Whether the least legs of the branches rise.
 fn are_in_order(branches: &[Held]) -> bool
     ensures { result ≡ are_in_order 0 branches.now }
 {
@@ -125,14 +125,14 @@ fn key_fits(code: &Code, vertex: u32, branches: &[Held]) -> bool
     are_in_order(branches) && fill_slots(branches, slots_of_vertex(code, vertex))
 }
 
-/// Whether a further fuse gives what the slot gathers.
+// Whether a further fuse gives what the slot gathers.
 fn adds_to(here: &Held, new: &Held) -> bool
     ensures { result ≡ adds_to here.now new.now }
 {
     !here.is_gathering() || (here.legs == new.legs && here.field == new.field)
 }
 
-/// Whether a denominator, if there is one in that row, is that of what a slot holds.
+// Whether a denominator, if there is one in that row, is that of what a slot holds.
 fn is_den_of(code: &Code, here: &Held, row: u32) -> bool
     requires some_legs { 1 ≤ size_of code.now }
     requires few_legs { size_of code.now ≤ 12 }

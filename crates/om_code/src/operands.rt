@@ -6,7 +6,7 @@ use crate::Instr;
 use std::marker::Model;
 
 /// The slots that an instruction names, or its registers where they have no slots yet: at most five. Contracts see the list.
-#[derive(Debug, Drop)]
+#[derive(Drop)]
 pub struct Operands {
     count: u8,
     registers: [u32; 5],

@@ -1,9 +1,9 @@
 //! Which codes have a text.
 ghost use Rattle.std.specs.Prelude.{◌≤◌, ◌↔◌, ◌≡◌, IsTrue, length};
 ghost use Rattle.std.specs.List.{AllByRecursion};
-ghost use Rattle.om_code.specs.Plain.{IsNamed, IsPlain, IsPlainDen, IsPlainFlow, IsPlainParticle, IsPlainVertex, IsProduct, field_name};
+ghost use Rattle.om_code.specs.Plain.{HasPlainLines, HasPlainModel, IsNamed, IsPlain, IsPlainDen, IsPlainFlow, IsPlainParticle, IsPlainVertex, IsProduct, field_name};
 
-use crate::plain_instrs::is_plain_list;
+use crate::plain_instrs::has_plain_instrs;
 use crate::{Code, Den};
 use om_colour::Flow;
 use om_legs::LegSet;
@@ -16,11 +16,11 @@ use om_model::{Particle, Product, Vertex, field_named};
 pub fn is_plain(code: &Code) -> bool
     ensures { IsTrue result ↔ IsPlain code.now }
 {
-    is_plain_model(code) && are_plain_lines(code) && is_plain_list(code)
+    has_plain_model(code) && has_plain_lines(code) && has_plain_instrs(code)
 }
 
-fn is_plain_model(code: &Code) -> bool
-    ensures { IsTrue result ↔ ((length code.now.model.particles ≤ 32768) × AllByRecursion IsPlainParticle code.now.model.particles × AllByRecursion (IsPlainVertex code.now.model.particles) code.now.model.vertices) }
+fn has_plain_model(code: &Code) -> bool
+    ensures { IsTrue result ↔ HasPlainModel code.now }
 {
     let particles = code.model.particles.as_slice();
     particles.len() <= 32_768
@@ -28,10 +28,10 @@ fn is_plain_model(code: &Code) -> bool
         && are_plain_vertices(particles, code.model.vertices.as_slice())
 }
 
-/// Whether the lines of the legs, flows and denominators are plain.
-fn are_plain_lines(code: &Code) -> bool
+// Whether the lines of the legs, flows and denominators are plain.
+fn has_plain_lines(code: &Code) -> bool
     requires { length code.now.model.particles ≤ 32768 }
-    ensures { IsTrue result ↔ (AllByRecursion (IsNamed code.now.model.particles) code.now.legs × AllByRecursion IsPlainFlow code.now.flows × AllByRecursion (IsPlainDen code.now.model.particles) code.now.dens) }
+    ensures { IsTrue result ↔ HasPlainLines code.now }
 {
     let particles = code.model.particles.as_slice();
     are_named(particles, code.legs.as_slice())
@@ -73,7 +73,7 @@ fn are_plain_particles(particles: &[Particle]) -> bool
     true
 }
 
-/// Whether a field is that of a particle, and the first that its name means.
+// Whether a field is that of a particle, and the first that its name means.
 fn is_named(particles: &[Particle], field: u16) -> bool
     requires { length particles.now ≤ 32768 }
     ensures { IsTrue result ↔ IsNamed particles.now field }

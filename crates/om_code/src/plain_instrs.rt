@@ -1,13 +1,13 @@
 //! Which lists of instructions have a text.
 ghost use Rattle.std.specs.Prelude.{◌≡◌, ◌↔◌, ◌⊎◌, IsTrue};
 ghost use Rattle.std.specs.List.{AllByRecursion};
-ghost use Rattle.om_code.specs.Plain.{AreSlots, InParts, IsLoadSlot, IsPlainInstr, IsPlace, part_of as part_of_instr, registers_named as registers_named_by, slots_for as slots_for_instr};
+ghost use Rattle.om_code.specs.Plain.{AreSlots, HasPlainInstrs, InParts, IsLoadSlot, IsPlainInstr, IsPlace, part_of as part_of_instr, registers_named as registers_named_by, slots_for as slots_for_instr};
 
 use crate::{Code, Instr};
 
 /// Whether the version, the slots and the instructions are plain.
-pub(crate) fn is_plain_list(code: &Code) -> bool
-    ensures { IsTrue result ↔ (((code.now.version ≡ 1) ⊎ (code.now.version ≡ 2)) × AreSlots code.now.version code.now.slots code.now.instrs × AllByRecursion (IsPlainInstr code.now.version) code.now.instrs × InParts 0 code.now.instrs) }
+pub(crate) fn has_plain_instrs(code: &Code) -> bool
+    ensures { IsTrue result ↔ HasPlainInstrs code.now }
 {
     (code.version == 1 || code.version == 2)
         && are_slots(code.version, code.slots, code.instrs.as_slice())
@@ -15,7 +15,7 @@ pub(crate) fn is_plain_list(code: &Code) -> bool
         && are_in_parts(code.instrs.as_slice())
 }
 
-/// Whether one more is below 2^32.
+// Whether one more is below 2^32.
 fn is_place(k: u32) -> bool
     ensures { IsTrue result ↔ IsPlace k }
 {
@@ -91,7 +91,7 @@ fn part_of(instr: &Instr) -> u8
     }
 }
 
-/// Whether the loads stand before all other instructions and the keys behind them.
+// Whether the loads stand before all other instructions and the keys behind them.
 #[tactic(auto, unfolding(crate::specs::Plain::InParts))]
 fn are_in_parts(instrs: &[Instr]) -> bool
     ensures { IsTrue result ↔ InParts 0 instrs.now }
@@ -106,7 +106,7 @@ fn are_in_parts(instrs: &[Instr]) -> bool
     true
 }
 
-/// Whether version 1 has as many slots as registers.
+// Whether version 1 has as many slots as registers.
 fn are_slots(version: u8, slots: u32, instrs: &[Instr]) -> bool
     ensures { IsTrue result ↔ AreSlots version slots instrs.now }
 {
@@ -117,7 +117,7 @@ fn are_slots(version: u8, slots: u32, instrs: &[Instr]) -> bool
     }
 }
 
-/// The greatest register that a load or a fuse names, counted from 1, or 0.
+// The greatest register that a load or a fuse names, counted from 1, or 0.
 #[tactic(auto, unfolding(crate::specs::Plain::registers_named))]
 fn registers_named(instrs: &[Instr]) -> u64
     ensures { result ≡ registers_named_by instrs.now }

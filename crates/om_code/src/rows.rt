@@ -27,8 +27,7 @@ pub(crate) fn particle_break(code: &Code) -> Option<Break>
     ensures first { IsFirstBreak (particle_lines code.now) result }
     ensures within { IfSome result (λ b. b.at < length code.now.model.particles) }
 {
-    for k in 0..code.model.particles.len() {
-        let particle = code.model.particles.at(k);
+    for (k, particle) in code.model.particles.as_slice().iter().enumerate() {
         if !is_particle(code, k, particle) {
             return Some(Break {
                 at: k,
@@ -51,8 +50,7 @@ pub(crate) fn vertex_break(code: &Code) -> Option<Break>
     ensures first { IsFirstBreak (vertex_lines code.now) result }
     ensures within { IfSome result (λ b. b.at < length code.now.model.vertices) }
 {
-    for k in 0..code.model.vertices.len() {
-        let vertex = code.model.vertices.at(k);
+    for (k, vertex) in code.model.vertices.as_slice().iter().enumerate() {
         if !is_vertex(code, k, vertex) {
             return Some(Break {
                 at: k,
@@ -89,8 +87,7 @@ pub(crate) fn flow_break(code: &Code) -> Option<Break>
     ensures first { IsFirstBreak (flow_lines code.now) result }
     ensures within { IfSome result (λ b. b.at < length code.now.flows) }
 {
-    for k in 0..code.flows.len() {
-        let flow = code.flows.at(k);
+    for (k, flow) in code.flows.as_slice().iter().enumerate() {
         if !is_flow(code, k, flow) {
             return Some(Break {
                 at: k,
@@ -114,7 +111,7 @@ fn is_before(earlier: &Flow, flow: &Flow) -> bool
     matches!(earlier.cmp(flow), Ordering::Less)
 }
 
-/// Whether the flow joins the starts of lines to their ends, one to one.
+// Whether the flow joins the starts of lines to their ends, one to one.
 fn joins_legs(code: &Code, flow: &Flow) -> bool
     ensures { IsTrue result ↔ ((j : ℕ) → j < 12 → IsTrue (is_leg_of_flow code.now flow.now.ends j)) }
 {
@@ -126,7 +123,7 @@ fn joins_legs(code: &Code, flow: &Flow) -> bool
     true
 }
 
-/// Whether a flow goes on at a leg, counted from 0, as the leg's colour asks.
+// Whether a flow goes on at a leg, counted from 0, as the leg's colour asks.
 fn is_leg_of_flow(code: &Code, flow: &Flow, k: usize) -> bool
     requires { k < 12 }
     ensures { result ≡ is_leg_of_flow code.now flow.now.ends k }
@@ -174,8 +171,7 @@ pub(crate) fn den_break(code: &Code) -> Option<Break>
     ensures first { IsFirstBreak (den_lines code.now) result }
     ensures within { IfSome result (λ b. b.at < length code.now.dens) }
 {
-    for k in 0..code.dens.len() {
-        let den = code.dens.at(k);
+    for (k, den) in code.dens.as_slice().iter().enumerate() {
         if !is_den(code, k, den) {
             return Some(Break {
                 at: k,
@@ -201,7 +197,7 @@ fn is_behind(earlier: &Den, den: &Den) -> bool
     matches!(earlier.cmp(den), Ordering::Less)
 }
 
-/// Whether a set is the side without leg 1 of an inner edge, where there are n legs.
+// Whether a set is the side without leg 1 of an inner edge, where there are n legs.
 fn is_inner(n: u8, legs: LegSet) -> bool
     requires some { 1 ≤ n }
     requires few { n ≤ 12 }

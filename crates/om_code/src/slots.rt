@@ -121,7 +121,7 @@ pub fn fused(code: &Code, held: &[Held], vertex: u32, branches: &Branches) -> He
     }
 }
 
-/// Puts what a slot holds; in version 1 a slot that wasn't there before goes last.
+// Puts what a slot holds; in version 1 a slot that wasn't there before goes last.
 fn put(held: &mut List<Held>, slot: u32, new: Held) -> Result<(), NoMemory>
     ensures { OnOk result (held.new ≡ put held.old slot new) }
 {

@@ -32,7 +32,7 @@ pub(crate) fn step_break(code: &Code, held: &[Held], instr: &Instr) -> Option<Co
     }
 }
 
-/// Whether what an instruction names exists.
+// Whether what an instruction names exists.
 fn names_all(code: &Code, instr: &Instr) -> bool
     requires { HasThreeOrFour code.now }
     ensures { result ≡ names_all code.now instr.now }

@@ -12,7 +12,7 @@ use std::alloc::Global;
 use std::process::Abort;
 use std::test::Fail;
 
-/// What is other than in the program of four legs. Instructions and denominators have their places from 0.
+// What is other than in the program of four legs. Instructions and denominators have their places from 0.
 #[derive(Clone, Copy, Debug)]
 enum Change {
     None,

@@ -34,7 +34,7 @@ pub fn verify(alloc: Global, code: Code) -> Result<Verified, CodeFault>
     }
 }
 
-/// The same line, if there is one, counted from some lines before.
+// The same line, if there is one, counted from some lines before.
 fn behind(rest: Option<Break>, lines: usize) -> Option<Break>
     requires { IfSome rest (λ b. lines + b.at < 2 ^ 64) }
     ensures { result ≡ moved_option lines rest }
@@ -45,7 +45,7 @@ fn behind(rest: Option<Break>, lines: usize) -> Option<Break>
     }
 }
 
-/// The first line that breaks a rule.
+// The first line that breaks a rule.
 fn first_break(alloc: Global, code: &Code) -> Result<Option<Break>, NoMemory>
     requires read { CanBeRead code.now }
     ensures first { IfOk result (IsFirstBreak (program_lines code.now)) }
@@ -60,7 +60,7 @@ fn first_break(alloc: Global, code: &Code) -> Result<Option<Break>, NoMemory>
     }
 }
 
-/// The first line behind the particles that breaks a rule.
+// The first line behind the particles that breaks a rule.
 fn break_behind_particles(alloc: Global, code: &Code) -> Result<Option<Break>, NoMemory>
     requires read { CanBeRead code.now }
     ensures first { IfOk result (IsFirstBreak (behind_particles code.now)) }
@@ -75,7 +75,7 @@ fn break_behind_particles(alloc: Global, code: &Code) -> Result<Option<Break>, N
     }
 }
 
-/// The first line behind the vertices that breaks a rule.
+// The first line behind the vertices that breaks a rule.
 fn break_behind_vertices(alloc: Global, code: &Code) -> Result<Option<Break>, NoMemory>
     requires read { CanBeRead code.now }
     ensures first { IfOk result (IsFirstBreak (behind_vertices code.now)) }
@@ -87,7 +87,7 @@ fn break_behind_vertices(alloc: Global, code: &Code) -> Result<Option<Break>, No
     }
 }
 
-/// The first line behind the legs that breaks a rule.
+// The first line behind the legs that breaks a rule.
 fn break_behind_legs(alloc: Global, code: &Code) -> Result<Option<Break>, NoMemory>
     requires read { CanBeRead code.now }
     requires few { size_of code.now ≤ 12 }
@@ -106,7 +106,7 @@ fn break_behind_legs(alloc: Global, code: &Code) -> Result<Option<Break>, NoMemo
     }
 }
 
-/// The first line behind the flows that breaks a rule.
+// The first line behind the flows that breaks a rule.
 fn break_behind_flows(alloc: Global, code: &Code) -> Result<Option<Break>, NoMemory>
     requires read { CanBeRead code.now }
     requires some { 3 ≤ size_of code.now }
@@ -120,7 +120,7 @@ fn break_behind_flows(alloc: Global, code: &Code) -> Result<Option<Break>, NoMem
     }
 }
 
-/// The first line behind the denominators that breaks a rule.
+// The first line behind the denominators that breaks a rule.
 fn break_behind_dens(alloc: Global, code: &Code) -> Result<Option<Break>, NoMemory>
     requires read { CanBeRead code.now }
     requires some { 3 ≤ size_of code.now }
@@ -154,7 +154,7 @@ fn slots_break(code: &Code) -> Option<Break>
     }
 }
 
-/// The first line behind the slots that breaks a rule: an instruction, or the end.
+// The first line behind the slots that breaks a rule: an instruction, or the end.
 fn instr_break(alloc: Global, code: &Code) -> Result<Option<Break>, NoMemory>
     requires read { CanBeRead code.now }
     requires some { 3 ≤ size_of code.now }
@@ -163,8 +163,7 @@ fn instr_break(alloc: Global, code: &Code) -> Result<Option<Break>, NoMemory>
     ensures within { IfOk result (λ r. IfSome r (λ b. b.at < from_instrs code.now)) }
 {
     let mut held = at_start(alloc, code)?;
-    for k in 0..code.instrs.len() {
-        let instr = code.instrs.at(k);
+    for (k, instr) in code.instrs.as_slice().iter().enumerate() {
         if let Some(kind) = step_break(code, held.as_slice(), instr) {
             return Ok(Some(Break { at: k, kind }));
         }
