@@ -83,7 +83,7 @@ step-refutes c st i well kinds.Den b = b
 pub instrs-refute : (c : Code) → Refutes (instr_lines c)
 instrs-refute c keeps k kind b = step-refutes c (held_before c k) b.0 (keeps k b.0 b.1) kind b.2
 
-same-instr : (c : Code) (k j : ℕ) (i l : Instr) → k ≡ j → slice_get c.instrs k ≡ Some i → slice_get c.instrs j ≡ Some l → l ≡ i
+pub same-instr : (c : Code) (k j : ℕ) (i l : Instr) → k ≡ j → slice_get c.instrs k ≡ Some i → slice_get c.instrs j ≡ Some l → l ≡ i
 same-instr c k j i l e at there = some_is l i (sym there ∙ ap (slice_get c.instrs) (sym e) ∙ at)
 
 abbrev pub AllBelow : Code → ℕ → Type 0

@@ -1,5 +1,5 @@
 -- Laws, as statements.
-use Rattle.std.specs.Prelude.{◌≡◌, ◌↔◌, ℕ, ◌<◌, ◌≤◌, true, false, List, [], ◌∷◌, map}
+use Rattle.std.specs.Prelude.{◌≡◌, ◌↔◌, ℕ, ◌<◌, ◌≤◌, true, false, List, [], ◌∷◌, map, Some, slice_get}
 use Rattle.std.specs.declared.cmp.Ordering.TheVariants.{Less}
 use Rattle.om_ring.specs.Ops.{Ops}
 use Rattle.om_model.specs.FeynmanRules.{Table}
@@ -9,6 +9,9 @@ use Rattle.om_code.specs.declared.code.Code.{Code}
 use Rattle.om_code.specs.declared.code.Den.{Den}
 use Rattle.om_code.specs.DenOrder.{den_order}
 use Rattle.om_code.specs.Lines.{program_lines}
+use Rattle.om_code.specs.Rules.{IsSettled, KeepsAll, KeepsRules}
+use Rattle.om_code.specs.Slots.{at_start, held_before}
+use Rattle.om_code.specs.declared.code.Instr.{Instr}
 use Rattle.om_code.specs.Verified.{IsVerified}
 use Rattle.om_code.specs.Waves.{Incoming}
 use Rattle.om_code.specs.Meaning.{MachineAnswer, IsMeaning}
@@ -19,6 +22,11 @@ use Rattle.om_code.specs.Registers.{Step, run, start, ReadsWritten, lines_of, pl
 -- no line of a verified code breaks a rule
 abbrev pub VerifiedBreaksNone : Type 0
 VerifiedBreaksNone = (c : Code) → IsVerified c → (k : ℕ) (kind : CodeKind) → (program_lines c).breaks k kind → ⊥
+
+-- instructions that keep the rules one after the other are those of which each does, where none gathers at the end
+abbrev pub RulesByWalk : Type 0
+RulesByWalk = (c : Code) → KeepsAll c (at_start c) c.instrs ↔
+    (((k : ℕ) (i : Instr) → slice_get c.instrs k ≡ Some i → KeepsRules c (held_before c k) i) × IsSettled c)
 
 -- the order of denominators is that of the two numbers, that of the set and that of the field
 abbrev pub DensByNumbers : Type 0

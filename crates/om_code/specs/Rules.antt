@@ -18,7 +18,7 @@ use Rattle.om_code.specs.declared.code.Instr.TheVariants.{Load, Fuse, Prop, Key}
 use Rattle.om_code.specs.declared.code.Code.{Code}
 use Rattle.om_code.specs.declared.slots.Held.{Held}
 use Rattle.om_code.specs.DenOrder.{den_order}
-use Rattle.om_code.specs.Slots.{held_at, is_gathering, is_ready, nodes_of, branches_held, union_of, fields_of, left_field, slots_of_vertex, fused, held_before}
+use Rattle.om_code.specs.Slots.{after, held_at, is_gathering, is_ready, nodes_of, branches_held, union_of, fields_of, left_field, slots_of_vertex, fused, held_before}
 
 -- how many legs there are
 abbrev pub size_of : Code → ℕ
@@ -154,3 +154,8 @@ module _ (c : Code) where
   -- at the end no slot gathers
   abbrev pub IsSettled : Type 0
   IsSettled = list_any is_gathering (held_before c (length c.instrs)) ≡ false
+
+  -- the instructions keep the rules one after the other, where the slots hold this before the first, and at the end no slot gathers
+  abbrev pub KeepsAll : List Held → List Instr → Type 0
+  KeepsAll st [] = list_any is_gathering st ≡ false
+  KeepsAll st (i ∷ is) = KeepsRules st i × KeepsAll (after c st i) is

@@ -1,5 +1,5 @@
 //! Laws of the definitions: calls that do nothing, whose contracts a caller may use.
-ghost use Rattle.om_code.specs.Laws.{DensByNumbers, FirstFitTakesTheWidth, OneMeaning, PlansKeepFinds, PlansKeepSums, PlansTakeTheWidth, VerifiedBreaksNone};
+ghost use Rattle.om_code.specs.Laws.{DensByNumbers, FirstFitTakesTheWidth, OneMeaning, PlansKeepFinds, PlansKeepSums, PlansTakeTheWidth, RulesByWalk, VerifiedBreaksNone};
 ghost use Rattle.om_code.specs.Contents.{MeaningIsRun};
 
 use om_ring::Ring;
@@ -7,6 +7,12 @@ use om_ring::Ring;
 /// No line of a verified code breaks a rule.
 pub fn verified_breaks_none()
     ensures { VerifiedBreaksNone }
+{}
+
+/// Instructions keep the rules one after the other exactly where each does, with what the slots hold before it, and none
+/// gathers at the end.
+pub fn rules_by_walk()
+    ensures { RulesByWalk }
 {}
 
 /// The order of denominators is that of the number of the set of legs, then that of the number of the field.
