@@ -11,7 +11,8 @@ use Rattle.om_colour.specs.Lines.Side.{leg, vertex}
 use Rattle.om_colour.specs.Ending.{TakesLine, GivesLine, IsMatched, HasColour, StartsIn, IsApart, AreApart, IsNumbered}
 use Rattle.om_colour.specs.Follow.{follow, partial_of, flow_of}
 use Rattle.om_colour.specs.Choices.{goes_to, SendsOn, colour_at}
-use Rattle.om_colour.specs.Table.{Row, row_of, choice_count, choice_of, coloured_slots, fits_pattern, table}
+use Rattle.om_colour.specs.Table.{Row, row_of, choice_count, choice_of, reading_of, coloured_slots, fits_pattern, table}
+use Rattle.om_colour.specs.Readings.{NamesEachSlot}
 use Rattle.om_colour.specs.Partials.{IsPartialOf, IsFlowOf, FitsOnwards, Fits, leg_partial}
 use Rattle.om_colour.specs.Fitting.{IsPartialBehind, AreBehind}
 
@@ -24,6 +25,12 @@ ChoicesSendOn =
 -- at most one row of the table has the colours of three or four slots
 abbrev pub OneRow : Type 0
 OneRow = (cs : List Colour) → (length cs ≡ 3) ⊎ (length cs ≡ 4) → count_by (fits_pattern (coloured_slots cs)) table ≤ 1
+
+-- each choice of each row is read in an order that names each slot once
+abbrev pub ReadingsNameEachSlot : Type 0
+ReadingsNameEachSlot =
+    (cs : List Colour) → (length cs ≡ 3) ⊎ (length cs ≡ 4) → (r : Row) → row_of cs ≡ Some r → (k : ℕ) → k < choice_count r
+    → NamesEachSlot (length cs) (reading_of r k)
 
 -- where lines match on both sides of an edge, and over it, each line from the side t ends
 abbrev pub EachLineEnds : Type 0

@@ -12,6 +12,8 @@
 //!
 //! Legs have the numbers 1 to 12 and slots the numbers 1 to 4. Choices count from 0.
 #![tactic(auto)]
+ghost use Rattle.std.specs.Prelude.{◌≡◌};
+ghost use Rattle.om_colour.specs.Lines.{anti_colour};
 
 mod joining;
 pub mod laws;
@@ -37,6 +39,20 @@ pub enum Colour {
     AntiThree,
     /// 8: starts a line and ends one.
     Eight,
+}
+
+impl Colour {
+    /// The colour of the antiparticle: 3 and -3 are exchanged.
+    pub fn anti(self) -> Colour
+        ensures { result ≡ anti_colour self }
+    {
+        match self {
+            Colour::One => Colour::One,
+            Colour::Three => Colour::AntiThree,
+            Colour::AntiThree => Colour::Three,
+            Colour::Eight => Colour::Eight,
+        }
+    }
 }
 
 /// Where a vertex sends the lines that arrive.
