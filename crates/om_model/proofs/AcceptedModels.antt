@@ -84,7 +84,7 @@ same_spins : (xs ys : List Spin) → Decision (xs ≡ ys)
 same_spins xs ys = (
   bytes_eq (map spin_number xs) (map spin_number ys),
   Decides-like (bytes_eq (map spin_number xs) (map spin_number ys)) (λ e. sym (spins_back xs) ∙ ap (map spin_at) e ∙ spins_back ys) (λ e. ap (map spin_number) e)
-  (bytes_eq-Decides (map spin_number xs) (map spin_number ys)),
+      (bytes_eq-Decides (map spin_number xs) (map spin_number ys)),
 )
 
 has_length : (product : List Numeral) → Decision (HasLength product)
