@@ -5,6 +5,19 @@ use Rattle.std.specs.List.{list_all, slice_split}
 use Rattle.std.proofs.lemmas.Bool.Decides.{nat_tests}
 use Rattle.om_model.specs.LegSetText.{leg_number, numbers_above, set_numbers, last_number}
 
+module _ (last : ℕ) (piece : List ℕ) (pieces : List (List ℕ)) where
+  pub numbers-bad : leg_number piece ≡ None → numbers_above last (piece ∷ pieces) ≡ None
+  unfolding numbers_above
+  numbers-bad q = rw (q, numbers_above) refl
+
+  pub numbers-falling : (k : ℕ) → leg_number piece ≡ Some k → nat_lt last k ≡ false → numbers_above last (piece ∷ pieces) ≡ None
+  unfolding numbers_above
+  numbers-falling k q r = rw (q, numbers_above) (rw r refl)
+
+  pub numbers-rising : (k : ℕ) → leg_number piece ≡ Some k → nat_lt last k ≡ true → numbers_above last (piece ∷ pieces) ≡ option_map (λ ks. k ∷ ks) (numbers_above k pieces)
+  unfolding numbers_above
+  numbers-rising k q r = rw (q, numbers_above) (rw r refl)
+
 -- the first of the numbers, and the others
 pub record Splits (last : ℕ) (piece : List ℕ) (pieces : List (List ℕ)) (ks : List ℕ) : Type 0 where
   pub first : ℕ
@@ -15,22 +28,19 @@ pub record Splits (last : ℕ) (piece : List ℕ) (pieces : List (List ℕ)) (ks
   pub rest : numbers_above first pieces ≡ Some more
 
 pub numbers-first : (last : ℕ) (piece : List ℕ) (pieces : List (List ℕ)) (ks : List ℕ) → numbers_above last (piece ∷ pieces) ≡ Some ks → Splits last piece pieces ks
-unfolding numbers_above
-numbers-first last piece pieces ks e = by (leg_number piece) refl e
+numbers-first last piece pieces ks e = by (leg_number piece) refl
   where
-    rest : (k : ℕ) → leg_number piece ≡ Some k → last < k → (found : Option (List ℕ)) → numbers_above k pieces ≡ found → option_map (λ ks. k ∷ ks) found ≡ Some ks → Splits last piece pieces ks
+    rest : (k : ℕ) → leg_number piece ≡ Some k → last < k → (found : Option (List ℕ)) → numbers_above k pieces ≡ found → Some ks ≡ option_map (λ ks. k ∷ ks) found → Splits last piece pieces ks
     rest k q lt None r h = absurd (let never : ⊥ = cc in never)
     rest k q lt (Some more) r h = record { first = k; more = more; are = cc; rises = lt; is = q; rest = r }
 
-    rising : (k : ℕ) → leg_number piece ≡ Some k → (b : Bool) → nat_lt last k ≡ b → (if b then option_map (λ ks. k ∷ ks) (numbers_above k pieces) else None) ≡ Some ks → Splits last piece pieces ks
-    rising k q true lt h = let less : last < k = grind (arith, nat_tests) in rest k q less (numbers_above k pieces) refl h
-    rising k q false lt h = absurd (let never : ⊥ = cc in never)
+    rising : (k : ℕ) → leg_number piece ≡ Some k → (b : Bool) → nat_lt last k ≡ b → Splits last piece pieces ks
+    rising k q true lt = let less : last < k = grind (arith, nat_tests) in rest k q less (numbers_above k pieces) refl (sym e ∙ numbers-rising last piece pieces k q lt)
+    rising k q false lt = absurd (let gone = numbers-falling last piece pieces k q lt in let never : ⊥ = cc in never)
 
-    by : (found : Option ℕ) → leg_number piece ≡ found
-        → (elim found as (λ _. Option (List ℕ)) [ None ↦ None | Some k ↦ if nat_lt last k then option_map (λ ks. k ∷ ks) (numbers_above k pieces) else None ]) ≡ Some ks
-        → Splits last piece pieces ks
-    by None q h = absurd (let never : ⊥ = cc in never)
-    by (Some k) q h = rising k q (nat_lt last k) refl h
+    by : (found : Option ℕ) → leg_number piece ≡ found → Splits last piece pieces ks
+    by None q = absurd (let gone = numbers-bad last piece pieces q in let never : ⊥ = cc in never)
+    by (Some k) q = rising k q (nat_lt last k) refl
 
 no_more : (last : ℕ) (ks : List ℕ) → numbers_above last [] ≡ Some ks → ks ≡ []
 unfolding numbers_above

@@ -17,11 +17,11 @@ names-more : (out : Bool) (ts : List Token) (t : Token) (us : List Token) → ts
 unfolding names_from
 names-more out ts t us e f = rw e (rw f refl)
 
-from-unknown : (ps : List Particle) (n : Named) (ns : List Named) → None ≡ field_named ps n.token.bytes → legs_from ps (n ∷ ns) ≡ Err n.token.place
+pub from-unknown : (ps : List Particle) (n : Named) (ns : List Named) → None ≡ field_named ps n.token.bytes → legs_from ps (n ∷ ns) ≡ Err n.token.place
 unfolding legs_from
 from-unknown ps n ns e = rw (← e, legs_from) refl
 
-from-known : (ps : List Particle) (n : Named) (ns : List Named) (f : ℕ) → Some f ≡ field_named ps n.token.bytes → legs_from ps (n ∷ ns) ≡ with_first (leg_of ps n.outgoing f) (legs_from ps ns)
+pub from-known : (ps : List Particle) (n : Named) (ns : List Named) (f : ℕ) → Some f ≡ field_named ps n.token.bytes → legs_from ps (n ∷ ns) ≡ with_first (leg_of ps n.outgoing f) (legs_from ps ns)
 unfolding legs_from
 from-known ps n ns f e = rw (← e, legs_from) refl
 

@@ -1,6 +1,6 @@
 //! The text of a set of legs, as `1+4+7`.
-ghost use Rattle.std.specs.Prelude.{◌≡◌, ◌+◌, ◌<◌, ◌≤◌, ◌==◌, IfSome, option_map};
-ghost use Rattle.std.specs.List.{position};
+ghost use Rattle.std.specs.Prelude.{◌≡◌, ◌<◌, ◌==◌, [], ◌∷◌, IfSome, MatchOption, length, option_map};
+ghost use Rattle.std.specs.List.{position, slice_split};
 ghost use Rattle.om_legs.specs.Legs.{set_of_one};
 ghost use Rattle.om_model.specs.LegSetText.{begins_number as begins_number_of, is_set as is_set_of, leg_number as leg_number_of, legs_read, one_more, set_numbers};
 ghost use Rattle.om_model.specs.Name.{is_digit as is_digit_of};
@@ -30,11 +30,23 @@ pub(crate) fn read_legs(text: &[u8]) -> Option<LegsRead>
         greatest: 0,
     };
     let mut rest = text;
-    while let Some(end) = plus_in(rest) {
-        read = with_number(read, leg_number(&rest[..end]))?;
-        rest = &rest[end + 1..];
+    while let Some((number, more)) = split_at_plus(rest) {
+        read = with_number(read, leg_number(number))?;
+        rest = more;
     }
     with_number(read, leg_number(rest))
+}
+
+// What stands before the first plus sign, and what stands behind it.
+#[tactic(auto, using(crate::proofs::Splitting::split_none))]
+fn split_at_plus(text: &[u8]) -> Option<(&[u8], &[u8])>
+    ensures parts { MatchOption result (slice_split (λ b. b == 43) text.now ≡ text.now ∷ [])
+        (λ p. slice_split (λ b. b == 43) text.now ≡ p.0.now ∷ slice_split (λ b. b == 43) p.1.now) }
+    ensures less { IfSome result (λ p. length p.1.now < length text.now) }
+{
+    let end = plus_in(text)?;
+    let (number, behind) = text.split_at(end);
+    Some((number, &behind[1..]))
 }
 
 fn plus_in(text: &[u8]) -> Option<usize>

@@ -1,8 +1,7 @@
 //! The edges of the sets of legs in the text of a process.
-ghost use Rattle.std.specs.Prelude.{◌≡◌, ◌+◌, ◌≤◌, ◌&&◌, nat_le};
-ghost use Rattle.om_legs.specs.Legs.{size};
+ghost use Rattle.std.specs.Prelude.{◌≡◌, ◌≤◌};
 ghost use Rattle.om_model.specs.Tokens.{tokens_of};
-ghost use Rattle.om_model.specs.ProcessText.{GivesEdges, edges_from};
+ghost use Rattle.om_model.specs.ProcessText.{GivesEdges, edge_read, edges_from};
 
 use super::tokens::next_token;
 use crate::ProcessFault;
@@ -24,10 +23,10 @@ pub(crate) fn named_edges(
     let mut at = 0;
     while let Some(token) = next_token(text, at) {
         if let Some(read) = read_legs(&text[token.start..token.end]) {
-            if !names_edge(read, legs) {
+            let Some(edge) = edge_of(read, legs) else {
                 return Err(ProcessFault::Edge(token.start));
-            }
-            let Ok(()) = edges.push(read.legs) else {
+            };
+            let Ok(()) = edges.push(edge) else {
                 return Err(ProcessFault::Memory);
             };
         }
@@ -36,11 +35,14 @@ pub(crate) fn named_edges(
     Ok(edges)
 }
 
-// Whether none of the legs is above n, and two at least and n - 2 at most are in the set.
-fn names_edge(read: LegsRead, n: u8) -> bool
+// The edge among n legs; none where a leg is above n, or fewer than two or more than n - 2 legs are in the set.
+fn edge_of(read: LegsRead, n: u8) -> Option<LegSet>
     requires { 2 ≤ n }
-    ensures { result ≡ (nat_le read.greatest n && nat_le 2 (size read.legs) && nat_le (size read.legs + 2) n) }
+    ensures { result ≡ edge_read n read }
 {
     let size = read.legs.size();
-    read.greatest <= n && size >= 2 && size <= n - 2
+    if read.greatest > n || size < 2 || size > n - 2 {
+        return None;
+    }
+    Some(read.legs)
 }

@@ -32,7 +32,7 @@ pub(crate) fn named_legs(
                 return Err(ProcessFault::Memory);
             };
         } else {
-            outgoing = outgoing || word == ARROW;
+            outgoing |= word == ARROW;
         }
         at = token.end;
     }

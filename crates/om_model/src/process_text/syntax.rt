@@ -53,14 +53,9 @@ fn fault_at_end(stage: Stage, end: usize) -> Option<usize>
 fn after_token(stage: Stage, token: &[u8]) -> Option<Stage>
     ensures { result ≡ after_token_of stage token.now }
 {
-    if is_name(token) {
-        return match stage {
-            Stage::Start | Stage::Incoming => Some(Stage::Incoming),
-            Stage::Turned | Stage::Outgoing => Some(Stage::Outgoing),
-            Stage::Slashed | Stage::Named => None,
-        };
-    }
     match stage {
+        Stage::Start | Stage::Incoming if is_name(token) => Some(Stage::Incoming),
+        Stage::Turned | Stage::Outgoing if is_name(token) => Some(Stage::Outgoing),
         Stage::Incoming if token == ARROW => Some(Stage::Turned),
         Stage::Outgoing | Stage::Named if token == SLASH => Some(Stage::Slashed),
         Stage::Slashed if is_set(token) => Some(Stage::Named),
