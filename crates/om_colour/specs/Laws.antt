@@ -1,6 +1,6 @@
 -- The laws of colour lines.
 use Rattle.std.specs.Prelude.{◌≡◌, ℕ, ◌+◌, ◌<◌, ◌≤◌, Bool, true, eqb, count_by, ◌≢◌, ◌⊎◌, ◌↔◌, Some, None, List, length}
-use Rattle.om_legs.specs.declared.leg_set.TheConstants.{MAX_LEGS}
+use Rattle.om_legs.specs.declared.leg_set.TheConstants.{MOST_LEGS}
 use Rattle.om_colour.specs.declared.Colour.{Colour}
 use Rattle.om_colour.specs.declared.Colour.TheVariants.{One}
 use Rattle.om_colour.specs.declared.Choice.{Choice}
@@ -87,15 +87,15 @@ ComputesFlow = (to : ℕ → ℕ) (beyond : ℕ → Side) → AreApart beyond �
 
 -- a diagram has one flow
 abbrev pub OneFlow : Type 0
-OneFlow = (to : ℕ → ℕ) (beyond : ℕ → Side) (v w : Flow) → length v.ends ≡ MAX_LEGS → length w.ends ≡ MAX_LEGS → IsFlowOf to beyond v → IsFlowOf to beyond w → v ≡ w
+OneFlow = (to : ℕ → ℕ) (beyond : ℕ → Side) (v w : Flow) → length v.ends ≡ MOST_LEGS → length w.ends ≡ MOST_LEGS → IsFlowOf to beyond v → IsFlowOf to beyond w → v ≡ w
 
 -- a side has one partial flow
 abbrev pub OnePartial : Type 0
-OnePartial = (t : Side) (p q : Partial) → length p.ends ≡ MAX_LEGS → length q.ends ≡ MAX_LEGS → IsPartialOf t (Some p) → IsPartialOf t (Some q) → p ≡ q
+OnePartial = (t : Side) (p q : Partial) → length p.ends ≡ MOST_LEGS → length q.ends ≡ MOST_LEGS → IsPartialOf t (Some p) → IsPartialOf t (Some q) → p ≡ q
 
 -- the partial flow of a leg holds that leg alone
 abbrev pub LegPartialIsBehind : Type 0
-LegPartialIsBehind = (n : ℕ) (c : Colour) → 1 ≤ n → n ≤ MAX_LEGS → IsPartialBehind (λ k. eqb (k + 1) n) c (Some (leg_partial n c))
+LegPartialIsBehind = (n : ℕ) (c : Colour) → 1 ≤ n → n ≤ MOST_LEGS → IsPartialBehind (λ k. eqb (k + 1) n) c (Some (leg_partial n c))
 
 -- behind a slot past the vertex stands no line
 abbrev pub NothingIsBehind : Type 0

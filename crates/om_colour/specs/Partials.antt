@@ -1,6 +1,6 @@
 -- Partial flows, and what they make of each other at a vertex.
 use Rattle.std.specs.Prelude.{◌≡◌, ℕ, ◌+◌, ◌<◌, ◌≤◌, cond, eqb, ◌&&◌, ◌≢◌, ◌⊎◌, ◌↔◌, Option, Some, None, List, [], ◌∷◌, slice_index}
-use Rattle.om_legs.specs.declared.leg_set.TheConstants.{MAX_LEGS}
+use Rattle.om_legs.specs.declared.leg_set.TheConstants.{MOST_LEGS}
 use Rattle.om_colour.specs.declared.TheConstants.{UPWARDS}
 use Rattle.om_colour.specs.declared.Choice.{Choice}
 use Rattle.om_colour.specs.declared.Colour.{Colour}
@@ -31,12 +31,12 @@ IsEnd x e = (0 < e) × (x ≡ e)
 
 -- the partial flow of the side t: the lines from each leg within t, and the line that enters
 pub record IsPartialOf (t : Side) (o : Option Partial) : Type 0 where
-  pub line : (k e : ℕ) → k < MAX_LEGS → Goes (k + 1) t outside e ↔ IsEnd (end_at o k) e
+  pub line : (k e : ℕ) → k < MOST_LEGS → Goes (k + 1) t outside e ↔ IsEnd (end_at o k) e
   pub into : (e : ℕ) → Ends t e ↔ IsEnd (into_at o) e
 
 -- the flow of a diagram that is opened at a vertex, with these sides beyond its slots: where its lines end
 abbrev pub IsFlowOf : (ℕ → ℕ) → (ℕ → Side) → Flow → Type 0
-IsFlowOf to beyond w = (k e : ℕ) → k < MAX_LEGS → LineAt to beyond (k + 1) e ↔ IsEnd (slice_index w.ends k) e
+IsFlowOf to beyond w = (k e : ℕ) → k < MOST_LEGS → LineAt to beyond (k + 1) e ↔ IsEnd (slice_index w.ends k) e
 
 -- the end of a line that goes to slot s, where slot h is open
 abbrev pub target_end : SlotPartials → ℕ → ℕ → ℕ
@@ -96,24 +96,24 @@ closed q c = record { ends = each_leg (joined_end q c no_hole) }
 
 -- a line leaves upwards
 abbrev pub LeavesUpwards : Option Partial → Type 0
-LeavesUpwards o = (k : ℕ) × (k < MAX_LEGS) × (end_at o k ≡ UPWARDS)
+LeavesUpwards o = (k : ℕ) × (k < MOST_LEGS) × (end_at o k ≡ UPWARDS)
 
 -- leg k + 1 is the start or the end of a line
 abbrev pub StandsIn : Option Partial → ℕ → Type 0
-StandsIn o k = (0 < end_at o k) ⊎ (((j : ℕ) × (j < MAX_LEGS) × (end_at o j ≡ k + 1)) ⊎ (into_at o ≡ k + 1))
+StandsIn o k = (0 < end_at o k) ⊎ (((j : ℕ) × (j < MOST_LEGS) × (end_at o j ≡ k + 1)) ⊎ (into_at o ≡ k + 1))
 
 -- ends are legs or UPWARDS, and nothing is an end twice
 pub record IsSound (o : Option Partial) : Type 0 where
-  pub ends : (k : ℕ) → k < MAX_LEGS → end_at o k ≤ UPWARDS
-  pub into : into_at o ≤ MAX_LEGS
-  pub once : (k j : ℕ) → k < MAX_LEGS → j < MAX_LEGS → 0 < end_at o k → end_at o k ≡ end_at o j → k ≡ j
-  pub not_into : (k : ℕ) → k < MAX_LEGS → 0 < into_at o → end_at o k ≢ into_at o
+  pub ends : (k : ℕ) → k < MOST_LEGS → end_at o k ≤ UPWARDS
+  pub into : into_at o ≤ MOST_LEGS
+  pub once : (k j : ℕ) → k < MOST_LEGS → j < MOST_LEGS → 0 < end_at o k → end_at o k ≡ end_at o j → k ≡ j
+  pub not_into : (k : ℕ) → k < MOST_LEGS → 0 < into_at o → end_at o k ≢ into_at o
 
 -- the partial flows fit the choice: no leg stands in two, and over each edge but that of slot h the lines go that the choice sends on
 pub record Fits (q : SlotPartials) (c : Choice) (h : ℕ) : Type 0 where
   pub choice : IsChoice (goes_to c)
   pub sound : (s : ℕ) → IsSlot s → IsSound (part_at q s)
-  pub apart : (s r k : ℕ) → IsSlot s → IsSlot r → r ≢ s → k < MAX_LEGS → StandsIn (part_at q s) k → StandsIn (part_at q r) k → ⊥
+  pub apart : (s r k : ℕ) → IsSlot s → IsSlot r → r ≢ s → k < MOST_LEGS → StandsIn (part_at q s) k → StandsIn (part_at q r) k → ⊥
   pub leaves : (s : ℕ) → IsSlot s → s ≢ h → LeavesUpwards (part_at q s) ↔ (0 < goes_to c s)
   pub enters : (s : ℕ) → IsSlot s → s ≢ h → (0 < into_at (part_at q s)) ↔ ((r : ℕ) × IsSlot r × (goes_to c r ≡ s))
 
@@ -134,4 +134,4 @@ pub record FitsOnwards (q : SlotPartials) (c : Choice) (h : ℕ) (p : Partial) :
   pub sound : IsSound (Some p)
   pub leaves : LeavesUpwards (Some p) ↔ ((s : ℕ) × IsSlot s × (goes_to c s ≡ h))
   pub enters : (0 < p.into) ↔ (0 < goes_to c h)
-  pub within : (k : ℕ) → k < MAX_LEGS → StandsIn (Some p) k → (s : ℕ) × IsSlot s × StandsIn (part_at q s) k
+  pub within : (k : ℕ) → k < MOST_LEGS → StandsIn (Some p) k → (s : ℕ) × IsSlot s × StandsIn (part_at q s) k

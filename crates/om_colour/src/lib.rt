@@ -10,7 +10,7 @@
 //! it for the side that a vertex and the parts at all its slots but one make, and [`close`] gives the lines
 //! of a whole diagram, a [`Flow`], from the parts at all slots of one of its vertices.
 //!
-//! Legs have the numbers 1 to [`MAX_LEGS`] and slots the numbers 1 to 4. Choices count from 0.
+//! Legs have the numbers 1 to [`MOST_LEGS`] and slots the numbers 1 to 4. Choices count from 0.
 #![tactic(auto)]
 
 ghost use Rattle.std.specs.Prelude.{◌≡◌};
@@ -25,7 +25,7 @@ mod tests;
 mod texts;
 
 pub use joining::{close, join};
-use om_legs::MAX_LEGS;
+use om_legs::MOST_LEGS;
 pub use partials::partial_of_leg;
 pub use table::{ColourRow, pattern};
 pub use texts::{Extent, FLOW_BYTES, flow_text, partial_text};
@@ -97,7 +97,7 @@ pub struct Flow {
 }
 
 /// The end of a line that leaves its side upwards, in the place of a leg.
-pub const UPWARDS: u8 = MAX_LEGS + 1;
+pub const UPWARDS: u8 = MOST_LEGS + 1;
 
 /// How many legs a flow has places for.
-pub const ENDS: usize = MAX_LEGS as usize;
+pub const ENDS: usize = MOST_LEGS as usize;

@@ -3,16 +3,16 @@ ghost use Rattle.std.specs.Prelude.{◌≡◌, ◌+◌, ◌≤◌, ◌&&◌, Som
 ghost use Rattle.om_colour.specs.Lines.{ends_line, starts_line};
 ghost use Rattle.om_colour.specs.Lines.Side.{leg as leg_side};
 ghost use Rattle.om_colour.specs.Partials.{IsPartialOf, IsSound, each_leg, leg_partial};
-ghost use Rattle.om_legs.specs.declared.leg_set.TheConstants.{MAX_LEGS};
+ghost use Rattle.om_legs.specs.declared.leg_set.TheConstants.{MOST_LEGS};
 ghost use Rattle.om_colour.specs.declared.TheConstants.{UPWARDS};
 
 use crate::{Colour, ENDS, Partial, UPWARDS};
 
-/// The partial flow of a leg from 1 to [`om_legs::MAX_LEGS`] that has this colour: its line leaves upwards where it starts one,
+/// The partial flow of a leg from 1 to [`om_legs::MOST_LEGS`] that has this colour: its line leaves upwards where it starts one,
 /// and the line that enters ends at it where it ends one.
 pub fn partial_of_leg(leg: u8, colour: Colour) -> Partial
     requires least { 1 ≤ leg }
-    requires most { leg ≤ MAX_LEGS }
+    requires most { leg ≤ MOST_LEGS }
     ensures value { result ≡ leg_partial leg colour }
     ensures lines { IsPartialOf (leg_side leg colour) (Some result) }
     ensures sound { IsSound (Some result) }
@@ -25,7 +25,7 @@ pub fn partial_of_leg(leg: u8, colour: Colour) -> Partial
 
 fn ends_from(leg: u8, colour: Colour) -> [u8; ENDS]
     requires least { 1 ≤ leg }
-    requires most { leg ≤ MAX_LEGS }
+    requires most { leg ≤ MOST_LEGS }
     ensures { result ≡ each_leg (λ k. cond (starts_line colour && eqb (k + 1) leg) UPWARDS 0) }
 {
     let mut ends = [0; ENDS];

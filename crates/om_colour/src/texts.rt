@@ -3,7 +3,7 @@ ghost use Rattle.std.specs.Prelude.{◌≡◌, ℕ, ◌+◌, ◌-◌, ◌*◌, �
 ghost use Rattle.om_colour.specs.Texts.{end_text, flow_bytes, line_item, line_items, one_more, partial_bytes, with_commas};
 ghost use Rattle.om_ring.specs.declared.line.TheConstants.{LINE_BYTES};
 ghost use Rattle.om_colour.specs.declared.texts.TheConstants.{FLOW_BYTES};
-ghost use Rattle.om_legs.specs.declared.leg_set.TheConstants.{MAX_LEGS};
+ghost use Rattle.om_legs.specs.declared.leg_set.TheConstants.{MOST_LEGS};
 
 use crate::{ENDS, Flow, Partial, UPWARDS};
 use om_ring::Line;
@@ -68,7 +68,7 @@ fn push_lines(to: &mut Line, extent: Extent, ends: &[u8; ENDS]) -> usize
 
 // Appends the item of a line, behind a comma where it isn't the first.
 fn push_item(to: &mut Line, count: usize, extent: Extent, start: u8, end: u8)
-    requires start { start ≤ MAX_LEGS }
+    requires start { start ≤ MOST_LEGS }
     requires free { length to.old + 7 ≤ LINE_BYTES }
     ensures text { to.new ≡ to.old ++ one_more count (line_item extent start end) }
     ensures short { length to.new ≤ length to.old + 6 + start / 10 }

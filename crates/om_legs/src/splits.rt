@@ -3,7 +3,7 @@ ghost use Rattle.std.specs.Prelude.{◌≡◌, ◌^◌, ◌<◌, ◌≤◌, leng
 ghost use Rattle.om_legs.specs.Legs.{IsLegSet, all_legs};
 ghost use Rattle.om_legs.specs.Splits.{AreSplits};
 ghost use Rattle.om_legs.specs.Walks.{pairs, triples, quadruples};
-ghost use Rattle.om_legs.specs.declared.leg_set.TheConstants.{MAX_LEGS};
+ghost use Rattle.om_legs.specs.declared.leg_set.TheConstants.{MOST_LEGS};
 
 use crate::four_parts::FourParts;
 use crate::leg_set::LegSet;
@@ -33,10 +33,10 @@ pub fn splits3(set: LegSet) -> ThreeParts
 }
 
 /// All splits of the legs 1 to n into three parts that aren't empty, each once, the parts by least
-/// leg; n is 1 to [`MAX_LEGS`]. It takes no memory.
+/// leg; n is 1 to [`MOST_LEGS`]. It takes no memory.
 pub fn partitions3(n: u8) -> ThreeParts
     requires some { 0 < n }
-    requires within { n ≤ MAX_LEGS }
+    requires within { n ≤ MOST_LEGS }
     ensures items { AreSplits 3 (all_legs n) result }
     ensures walk { result ≡ triples (all_legs n) }
     ensures few { length result < 2 ^ 24 }
@@ -45,10 +45,10 @@ pub fn partitions3(n: u8) -> ThreeParts
 }
 
 /// All splits of the legs 1 to n into four parts that aren't empty, each once, the parts by least
-/// leg; n is 1 to [`MAX_LEGS`]. It takes no memory.
+/// leg; n is 1 to [`MOST_LEGS`]. It takes no memory.
 pub fn partitions4(n: u8) -> FourParts
     requires some { 0 < n }
-    requires within { n ≤ MAX_LEGS }
+    requires within { n ≤ MOST_LEGS }
     ensures items { AreSplits 4 (all_legs n) result }
     ensures walk { result ≡ quadruples (all_legs n) }
     ensures few { length result < 2 ^ 36 }
