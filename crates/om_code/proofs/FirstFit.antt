@@ -11,7 +11,7 @@ use Rattle.om_ring.specs.Members.{In, Different}
 use Rattle.om_code.specs.Spans.{is_named, span_holds, width}
 use Rattle.om_code.specs.SlotPlans.{IsSlotPlan, slots_used, free_from, least_free, Given, taken_at, give, give_each, given_before, slot_in, slot_or_0, first_fit}
 use Rattle.om_code.specs.Laws.{FirstFitIsNarrow}
-use Rattle.om_code.proofs.Members.{in_from_member, member_from_in, absent_from_member, in_left, in_right, in_either, in_filter, of_filter, in_map, of_map, different_push, different_kept, few_below}
+use Rattle.om_ring.proofs.Members.{in_from_member, member_from_in, absent_from_member, in_left, in_right, in_either, in_filter, of_filter, in_map, of_map, different_push, different_kept, few_below}
 use Rattle.om_code.proofs.SpanFacts.{Before, before_line, line_before, parts_of_span, span_from, span_earlier, no_earlier_span, line_after, few_at, width_needed, after_named}
 
 -- the least number that a list lacks

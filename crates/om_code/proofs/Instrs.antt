@@ -6,6 +6,7 @@ use Rattle.std.proofs.lemmas.Bool.{and_parts, cases_order}
 use Rattle.std.proofs.lemmas.Bool.Decides.{nat_tests}
 use Rattle.std.proofs.lemmas.Option.{slice_get_within, get_or_from_slice_get}
 use Rattle.std.proofs.lemmas.List.{take_more, take_all}
+use Rattle.om_model.specs.declared.limits.TheConstants.{FEWEST_LEGS, MOST_LEGS}
 use Rattle.om_code.specs.declared.code.CodeKind.{CodeKind}
 use Rattle.om_code.specs.declared.code.CodeKind.TheVariants as kinds
 use Rattle.om_code.specs.declared.code.Instr.{Instr}
@@ -37,7 +38,7 @@ pub one-at-most : (c : Code) → slots_lines c ≤ 1
 one-at-most c = one-of (c.version == 1)
 
 -- where there are enough legs, the first line behind them breaks no rule on their number
-pub enough-legs : (c : Code) → 3 ≤ size_of c → (r : Option Break) → IsFirstBreak (then_lines (length c.flows) (flow_lines c) (behind_flows c)) r → IsFirstBreak (behind_legs c) r
+pub enough-legs : (c : Code) → FEWEST_LEGS ≤ size_of c → (r : Option Break) → IsFirstBreak (then_lines (length c.flows) (flow_lines c) (behind_flows c)) r → IsFirstBreak (behind_legs c) r
 enough-legs c many None h = (many, h)
 enough-legs c many (Some b) h = (
   inr h.0,
@@ -63,7 +64,7 @@ le-true : (m n : ℕ) → nat_le m n ≡ true → m ≤ n
 le-true m n h = grind (arith, nat_tests)
 
 -- a load that names an existing leg
-pub leg-of : (c : Code) (st : List Held) (i : Instr) → KeepsRules c st i → size_of c ≤ 12 → IsLegOf c i
+pub leg-of : (c : Code) (st : List Held) (i : Instr) → KeepsRules c st i → size_of c ≤ MOST_LEGS → IsLegOf c i
 leg-of c st (Load to leg) well few = let e = le-true leg (size_of c) (and_parts (nat_le leg (size_of c)) (is_slot c to) well.names).0 in omega arith
 leg-of c st (Fuse to minus vertex choice b) well few = tt
 leg-of c st (Prop of den) well few = tt

@@ -6,7 +6,6 @@ pub mod FirstFit
 pub mod FirstRow
 pub mod Groups
 pub mod Instrs
-pub mod Members
 pub mod OneMeaning
 pub mod PlacedFinds
 pub mod PlacedRuns

@@ -6,7 +6,7 @@ use Rattle.om_ring.specs.Members.{In}
 use Rattle.om_code.specs.SlotPlans.{IsSlotPlan}
 use Rattle.om_code.specs.Registers.{loads, Step, load, fuse, prop, key, State, named_by, lines_of, act, run, start, placed, ReadsWritten, look, adds, begins, turns, closes, found, finds, AreApart}
 use Rattle.om_code.specs.Laws.{PlansKeepFinds}
-use Rattle.om_code.proofs.Members.{of_map}
+use Rattle.om_ring.proofs.Members.{of_map}
 use Rattle.om_code.proofs.SpanFacts.{Before, After, line_before, line_after, span_from}
 use Rattle.om_code.proofs.PlacedRuns.{Agree, StandsAt, Known, run_settles, agree_act, stands_at, known_next, decided_in, all_in, here_after, here_before}
 

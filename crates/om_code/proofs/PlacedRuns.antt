@@ -9,7 +9,7 @@ use Rattle.om_ring.specs.Members.{In}
 use Rattle.om_code.specs.SlotPlans.{IsSlotPlan}
 use Rattle.om_code.specs.Registers.{Step, load, fuse, prop, key, put, State, written, named_by, lines_of, joined, act, run, start, placed, AllIn, ReadsWritten}
 use Rattle.om_code.specs.Laws.{PlansKeepSums}
-use Rattle.om_code.proofs.Members.{in_from_member, absent_from_member, in_left, in_right}
+use Rattle.om_ring.proofs.Members.{in_from_member, absent_from_member, in_left, in_right}
 use Rattle.om_code.proofs.SpanFacts.{Before, After, before_line, line_before, line_after, before_grows, after_shrinks, span_from}
 
 -- what a put leaves

@@ -10,7 +10,7 @@ use Rattle.std.proofs.lemmas.List.Folds.{concat-append}
 use Rattle.om_ring.specs.Members.{In, Different}
 use Rattle.om_code.specs.Spans.{is_named, span_holds, spans_at, greatest_below, width}
 use Rattle.om_code.specs.SlotPlans.{IsSlotPlan, slots_used}
-use Rattle.om_code.proofs.Members.{in_from_member, member_from_in, in_left, in_right, in_either, in_filter, of_filter, in_map, of_map, different_map, different_unique, of_unique, few_members}
+use Rattle.om_ring.proofs.Members.{in_from_member, member_from_in, in_left, in_right, in_either, in_filter, of_filter, in_map, of_map, different_map, different_unique, of_unique, few_members}
 
 -- the registers that the first n lines name, and those that the lines from n on name
 abbrev pub Before : List (List ℕ) → ℕ → ℕ → Type 0

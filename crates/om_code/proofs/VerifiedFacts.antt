@@ -4,6 +4,7 @@ use Rattle.std.specs.Prelude.{slice_get}
 use Rattle.std.proofs.lemmas.Bool.{cases_lt, true≢false}
 use Rattle.std.proofs.lemmas.Option.{slice_get_cases, slice_get_within}
 use Rattle.std.proofs.Common.{sym, ◌∙◌}
+use Rattle.om_model.specs.declared.limits.TheConstants.{MOST_PARTICLES, MOST_VERTICES}
 use Rattle.om_code.specs.declared.code.CodeKind.{CodeKind}
 use Rattle.om_code.specs.declared.code.CodeKind.TheVariants as kinds
 use Rattle.om_code.specs.declared.code.Code.{Code}
@@ -30,8 +31,8 @@ module _ (c : Code) where
   verified-from plain (particles, (vertices, (few, (some, (flows, (dens, (slots, (instrs, settled)))))))) = record {
     plain = plain;
     model = record {
-      particles = few-rows c.model.particles 64 (λ k p at. (particles k p at).0);
-      vertices = few-rows c.model.vertices 512 (λ k v at. (vertices k v at).0);
+      particles = few-rows c.model.particles MOST_PARTICLES (λ k p at. (particles k p at).0);
+      vertices = few-rows c.model.vertices MOST_VERTICES (λ k v at. (vertices k v at).0);
       formed_particles = λ k p at. (particles k p at).1;
       formed_vertices = λ k v at. (vertices k v at).1;
     };

@@ -52,9 +52,9 @@ module _ (c : Code) where
       let now : KeepsRules c (held_before c k) i = subst (λ m. KeepsRules c m i) s.held h.0 in (
         (λ j l le there. elim (cases_order j k) [
           | inl same ↦ (
-            let same_i : l ≡ i = same-instr c k j i l (sym same) (here k st i is s) there in
-            subst (KeepsRules c (held_before c j)) (sym same_i) (subst (λ m. KeepsRules c (held_before c m) i) (sym same) now)
-          )
+              let same_i : l ≡ i = same-instr c k j i l (sym same) (here k st i is s) there in
+              subst (KeepsRules c (held_before c j)) (sym same_i) (subst (λ m. KeepsRules c (held_before c m) i) (sym same) now)
+              )
           | inr (inl less) ↦ absurd (omega arith)
           | inr (inr more) ↦ rest.0 j l (omega arith) there
         ]),

@@ -3,7 +3,6 @@ pub mod Slots
 pub mod DenOrder
 pub mod Rules
 pub mod Readable
-pub mod WellFormed
 pub mod Verified
 pub mod Lines
 pub mod Waves

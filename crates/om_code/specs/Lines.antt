@@ -1,6 +1,7 @@
 -- The lines of a program's text, which of them break a rule, and the first that does.
 use Rattle.std.specs.Prelude.{◌≡◌, ◌≢◌, ◌⊎◌, ℕ, ◌+◌, ◌<◌, ◌≤◌, ◌==◌, cond, List, length, true, false, Option, Some, None, slice_get}
 use Rattle.std.specs.List.{list_any}
+use Rattle.om_model.specs.declared.limits.TheConstants.{FEWEST_LEGS, MOST_LEGS}
 use Rattle.om_code.specs.declared.code.CodeKind.{CodeKind}
 use Rattle.om_code.specs.declared.code.CodeKind.TheVariants as kinds
 use Rattle.om_code.specs.declared.code.CodeFault.{CodeFault}
@@ -62,9 +63,9 @@ module _ (c : Code) where
   abbrev pub vertex_lines : Group
   vertex_lines = row_lines kinds.Row c.model.vertices (IsVertex c)
 
-  -- there are at most twelve legs
+  -- there are no more legs than there may be
   abbrev pub leg_lines : Group
-  leg_lines = record { keeps = size_of c ≤ 12; breaks = λ k kind. (kind ≡ kinds.Legs) × (12 ≤ k) × (k < size_of c) }
+  leg_lines = record { keeps = size_of c ≤ MOST_LEGS; breaks = λ k kind. (kind ≡ kinds.Legs) × (MOST_LEGS ≤ k) × (k < size_of c) }
 
   abbrev pub flow_lines : Group
   flow_lines = row_lines kinds.Flow c.flows (IsFlow c)
@@ -104,11 +105,11 @@ module _ (c : Code) where
   abbrev pub behind_flows : Group
   behind_flows = then_lines (length c.dens) den_lines behind_dens
 
-  -- the first line behind the legs is where fewer than three are noticed
+  -- the first line behind the legs is where too few are noticed
   abbrev pub behind_legs : Group
   behind_legs = record {
-    keeps = (3 ≤ size_of c) × (then_lines (length c.flows) flow_lines behind_flows).keeps;
-    breaks = λ k kind. ((kind ≡ kinds.Legs) × (k ≡ 0) × (size_of c < 3)) ⊎ (then_lines (length c.flows) flow_lines behind_flows).breaks k kind;
+    keeps = (FEWEST_LEGS ≤ size_of c) × (then_lines (length c.flows) flow_lines behind_flows).keeps;
+    breaks = λ k kind. ((kind ≡ kinds.Legs) × (k ≡ 0) × (size_of c < FEWEST_LEGS)) ⊎ (then_lines (length c.flows) flow_lines behind_flows).breaks k kind;
   }
 
   abbrev pub behind_vertices : Group

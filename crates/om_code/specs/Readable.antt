@@ -1,5 +1,6 @@
 -- What the rules ask of a code before they can be tried.
 use Rattle.std.specs.Prelude.{◌≡◌, ◌⊎◌, ℕ, ◌+◌, ◌^◌, ◌<◌, ◌≤◌, length, Some, slice_get}
+use Rattle.om_model.specs.declared.limits.TheConstants.{MOST_LEGS}
 use Rattle.om_model.specs.declared.model.Vertex.{Vertex}
 use Rattle.om_code.specs.declared.code.Instr.{Instr}
 use Rattle.om_code.specs.declared.code.Instr.TheVariants.{Load, Fuse, Prop, Key}
@@ -22,9 +23,9 @@ pub record CanBeRead (c : Code) : Type 0 where
   pub instrs : (k : ℕ) (i : Instr) → slice_get c.instrs k ≡ Some i → HasFew i
   pub lines : length c.model.particles + (length c.model.vertices + (length c.legs + (length c.flows + (length c.dens + length c.instrs)))) < 2 ^ 31
 
--- a load's leg is one of at most twelve
+-- a load's leg is one that there may be
 abbrev pub IsLegOf : Code → Instr → Type 0
-IsLegOf c (Load to leg) = leg ≤ 12
+IsLegOf c (Load to leg) = leg ≤ MOST_LEGS
 IsLegOf c (Fuse to minus vertex choice b) = Unit {0}
 IsLegOf c (Prop of den) = Unit {0}
 IsLegOf c (Key flow minus vertex choice b) = Unit {0}

@@ -7,6 +7,7 @@ use Rattle.om_colour.specs.Lines.{starts_line, ends_line}
 use Rattle.om_colour.specs.Order.{flow_order}
 use Rattle.om_legs.specs.declared.branches.Branches.{Branches}
 use Rattle.om_legs.specs.Legs.{Meet, holds, union, complement, all_legs, size, least, minus}
+use Rattle.om_model.specs.declared.limits.TheConstants.{MOST_LEGS, MOST_PARTICLES, MOST_VERTICES}
 use Rattle.om_model.specs.Diagram.{same_numbers, times_in}
 use Rattle.om_model.specs.Model.{theory_of, anti_field, colour_of_field}
 use Rattle.om_model.specs.Rules.{IsFormedParticle, IsFormedVertex}
@@ -54,13 +55,13 @@ pub record IsInner (n set : ℕ) : Type 0 where
   pub most : size set + 2 ≤ n
 
 module _ (c : Code) where
-  -- a particle row is one of the first 64, and breaks no rule of models that no ring is needed for
+  -- a particle row is one of as many as there may be, and breaks no rule of models that no ring is needed for
   abbrev pub IsParticle : ℕ → Particle → Type 0
-  IsParticle k p = (k < 64) × IsFormedParticle (take k c.model.particles) p
+  IsParticle k p = (k < MOST_PARTICLES) × IsFormedParticle (take k c.model.particles) p
 
-  -- a vertex row is one of the first 512, and breaks no rule of models that no ring is needed for
+  -- a vertex row is one of as many as there may be, and breaks no rule of models that no ring is needed for
   abbrev pub IsVertex : ℕ → Vertex → Type 0
-  IsVertex k v = (k < 512) × IsFormedVertex c.model.particles v
+  IsVertex k v = (k < MOST_VERTICES) × IsFormedVertex c.model.particles v
 
   -- a line starts or ends at place k of the legs, counted from 0
   abbrev pub starts_at : ℕ → Bool
@@ -77,7 +78,7 @@ module _ (c : Code) where
 
   -- the flow joins the starts of the lines to their ends one to one, none to itself, and is behind the flow before it
   pub record IsFlow (k : ℕ) (w : Flow) : Type 0 where
-    pub legs : (j : ℕ) → j < 12 → IsTrue (is_leg_of_flow w.ends j)
+    pub legs : (j : ℕ) → j < MOST_LEGS → IsTrue (is_leg_of_flow w.ends j)
     pub behind : (earlier : Flow) → 1 ≤ k → slice_get c.flows (k - 1) ≡ Some earlier → flow_order earlier w ≡ Less
 
   -- the side without leg 1 of an inner edge, behind the denominator before it

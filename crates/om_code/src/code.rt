@@ -5,6 +5,9 @@ use om_legs::{Branches, LegSet};
 use om_model::Model;
 use om_ring::List;
 
+/// The most particle lines of a program's text, whose fields have numbers below 2^16.
+pub const MOST_PARTICLE_LINES: usize = 32_768;
+
 /// A denominator: an inner edge by its side without leg 1. In order of the set of legs as a number, then of the field.
 #[derive(Clone, Copy, PartialEq, Eq, PartialOrd, Ord, Debug)]
 pub struct Den {

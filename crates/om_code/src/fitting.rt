@@ -11,11 +11,12 @@ use crate::slots::{branches_held, fused, held_at, slots_of_vertex, union_of};
 use crate::{Code, Held, Instr};
 use om_legs::LegSet;
 use om_model::anti_field;
+use om_model::limits::MOST_LEGS;
 
 /// Whether the legs of the branches are those that an instruction needs.
 pub(crate) fn has_sets(code: &Code, held: &[Held], instr: &Instr) -> bool
     requires some_legs { 1 ≤ size_of code.now }
-    requires few_legs { size_of code.now ≤ 12 }
+    requires few_legs { size_of code.now ≤ MOST_LEGS }
     ensures { IsTrue result ↔ HasSets code.now held.now instr.now }
 {
     match instr {
@@ -33,7 +34,7 @@ pub(crate) fn has_sets(code: &Code, held: &[Held], instr: &Instr) -> bool
 
 // Whether the branches share no leg, and have as many legs as one side of an inner edge may have.
 fn can_be_inner(code: &Code, branches: &[Held]) -> bool
-    requires few_legs { size_of code.now ≤ 12 }
+    requires few_legs { size_of code.now ≤ MOST_LEGS }
     ensures { let all = union_of 0 branches.now in IsTrue result ↔ (AreApart 0 branches.now × (2 ≤ size all) × (size all + 2 ≤ size_of code.now)) }
 {
     let size = usize::from(union_of(branches).size());
@@ -43,7 +44,7 @@ fn can_be_inner(code: &Code, branches: &[Held]) -> bool
 // Whether the branches share out all legs.
 fn share_out_all(code: &Code, branches: &[Held]) -> bool
     requires some_legs { 1 ≤ size_of code.now }
-    requires few_legs { size_of code.now ≤ 12 }
+    requires few_legs { size_of code.now ≤ MOST_LEGS }
     ensures { IsTrue result ↔ (AreApart 0 branches.now × (union_of 0 branches.now ≡ all_legs (size_of code.now))) }
 {
     are_apart(branches) && union_of(branches) == LegSet::all(code.legs.len() as u8)
@@ -82,7 +83,7 @@ fn are_in_order(branches: &[Held]) -> bool
 pub(crate) fn fits(code: &Code, held: &[Held], instr: &Instr) -> bool
     requires few { HasFew instr.now }
     requires some_legs { 1 ≤ size_of code.now }
-    requires few_legs { size_of code.now ≤ 12 }
+    requires few_legs { size_of code.now ≤ MOST_LEGS }
     ensures { result ≡ fits code.now held.now instr.now }
 {
     match instr {
@@ -135,7 +136,7 @@ fn adds_to(here: &Held, new: &Held) -> bool
 // Whether a denominator, if there is one in that row, is that of what a slot holds.
 fn is_den_of(code: &Code, here: &Held, row: u32) -> bool
     requires some_legs { 1 ≤ size_of code.now }
-    requires few_legs { size_of code.now ≤ 12 }
+    requires few_legs { size_of code.now ≤ MOST_LEGS }
     ensures { result ≡ is_den_of code.now here.now (slice_get code.now.dens row) }
 {
     match code.dens.as_slice().get(row as usize) {

@@ -20,7 +20,7 @@ mod steps;
 mod verified;
 mod verifier;
 
-pub use code::{Code, CodeFault, CodeKind, Den, Instr};
+pub use code::{Code, CodeFault, CodeKind, Den, Instr, MOST_PARTICLE_LINES};
 pub use operands::Operands;
 pub use plain::is_plain;
 pub use slots::{

@@ -4,9 +4,10 @@ ghost use Rattle.std.specs.List.{AllByRecursion};
 ghost use Rattle.om_code.specs.Plain.{HasPlainLines, HasPlainModel, IsNamed, IsPlain, IsPlainDen, IsPlainFlow, IsPlainParticle, IsPlainVertex, IsProduct, field_name};
 
 use crate::plain_instrs::has_plain_instrs;
-use crate::{Code, Den};
+use crate::{Code, Den, MOST_PARTICLE_LINES};
 use om_colour::Flow;
 use om_legs::LegSet;
+use om_model::limits::{MOST_LEGS, MOST_NUMERALS};
 use om_model::{Particle, Product, Vertex, field_named};
 
 /// Whether a code is plain, so that it has a text. Its version is 1 or 2; it has at most 32,768 particles; each of its fields
@@ -23,14 +24,14 @@ fn has_plain_model(code: &Code) -> bool
     ensures { IsTrue result ↔ HasPlainModel code.now }
 {
     let particles = code.model.particles.as_slice();
-    particles.len() <= 32_768
+    particles.len() <= MOST_PARTICLE_LINES
         && are_plain_particles(particles)
         && are_plain_vertices(particles, code.model.vertices.as_slice())
 }
 
 // Whether the lines of the legs, flows and denominators are plain.
 fn has_plain_lines(code: &Code) -> bool
-    requires { length code.now.model.particles ≤ 32768 }
+    requires { length code.now.model.particles ≤ MOST_PARTICLE_LINES }
     ensures { IsTrue result ↔ HasPlainLines code.now }
 {
     let particles = code.model.particles.as_slice();
@@ -42,7 +43,7 @@ fn has_plain_lines(code: &Code) -> bool
 fn is_product(product: &Product) -> bool
     ensures { IsTrue result ↔ IsProduct product.now }
 {
-    1 <= product.len() && product.len() <= 8
+    1 <= product.len() && product.len() <= MOST_NUMERALS
 }
 
 fn are_products(products: &[Product]) -> bool
@@ -75,7 +76,7 @@ fn are_plain_particles(particles: &[Particle]) -> bool
 
 // Whether a field is that of a particle, and the first that its name means.
 fn is_named(particles: &[Particle], field: u16) -> bool
-    requires { length particles.now ≤ 32768 }
+    requires { length particles.now ≤ MOST_PARTICLE_LINES }
     ensures { IsTrue result ↔ IsNamed particles.now field }
 {
     match field_named(particles, name_of_field(particles, field)) {
@@ -95,7 +96,7 @@ fn name_of_field(particles: &[Particle], field: u16) -> &[u8]
 }
 
 fn are_named(particles: &[Particle], fields: &[u16]) -> bool
-    requires { length particles.now ≤ 32768 }
+    requires { length particles.now ≤ MOST_PARTICLE_LINES }
     ensures { IsTrue result ↔ AllByRecursion (IsNamed particles.now) fields.now }
 {
     for field in fields {
@@ -107,7 +108,7 @@ fn are_named(particles: &[Particle], fields: &[u16]) -> bool
 }
 
 fn is_plain_vertex(particles: &[Particle], vertex: &Vertex) -> bool
-    requires { length particles.now ≤ 32768 }
+    requires { length particles.now ≤ MOST_PARTICLE_LINES }
     ensures { IsTrue result ↔ IsPlainVertex particles.now vertex.now }
 {
     let (fields, factors) = (vertex.fields.as_slice(), vertex.factors.as_slice());
@@ -120,7 +121,7 @@ fn is_plain_vertex(particles: &[Particle], vertex: &Vertex) -> bool
 }
 
 fn are_plain_vertices(particles: &[Particle], vertices: &[Vertex]) -> bool
-    requires { length particles.now ≤ 32768 }
+    requires { length particles.now ≤ MOST_PARTICLE_LINES }
     ensures { IsTrue result ↔ AllByRecursion (IsPlainVertex particles.now) vertices.now }
 {
     for vertex in vertices {
@@ -135,7 +136,7 @@ fn is_plain_flow(flow: &Flow) -> bool
     ensures { IsTrue result ↔ IsPlainFlow flow.now }
 {
     for end in &flow.ends {
-        if *end > 12 {
+        if usize::from(*end) > MOST_LEGS {
             return false;
         }
     }
@@ -154,14 +155,14 @@ fn are_plain_flows(flows: &[Flow]) -> bool
 }
 
 fn is_plain_den(particles: &[Particle], den: &Den) -> bool
-    requires { length particles.now ≤ 32768 }
+    requires { length particles.now ≤ MOST_PARTICLE_LINES }
     ensures { IsTrue result ↔ IsPlainDen particles.now den.now }
 {
     den.legs != LegSet::empty() && is_named(particles, den.field)
 }
 
 fn are_plain_dens(particles: &[Particle], dens: &[Den]) -> bool
-    requires { length particles.now ≤ 32768 }
+    requires { length particles.now ≤ MOST_PARTICLE_LINES }
     ensures { IsTrue result ↔ AllByRecursion (IsPlainDen particles.now) dens.now }
 {
     for den in dens {

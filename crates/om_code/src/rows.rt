@@ -13,14 +13,9 @@ use crate::lines::Break;
 use crate::{Code, CodeKind, Den};
 use om_colour::{Colour, Flow};
 use om_legs::LegSet;
+use om_model::limits::{MOST_LEGS, MOST_PARTICLES, MOST_VERTICES};
 use om_model::{Particle, Vertex, colour_of_field, is_formed_particle, is_formed_vertex};
 use std::cmp::Ordering;
-
-const MOST_PARTICLES: usize = 64;
-
-const MOST_VERTICES: usize = 512;
-
-const MOST_LEGS: usize = 12;
 
 /// The first particle line that breaks a rule.
 pub(crate) fn particle_break(code: &Code) -> Option<Break>
@@ -40,7 +35,7 @@ pub(crate) fn particle_break(code: &Code) -> Option<Break>
 
 fn is_particle(code: &Code, k: usize, particle: &Particle) -> bool
     requires { k < length code.now.model.particles }
-    ensures { IsTrue result ↔ ((k < 64) × IsFormedParticle (take k code.now.model.particles) particle.now) }
+    ensures { IsTrue result ↔ ((k < MOST_PARTICLES) × IsFormedParticle (take k code.now.model.particles) particle.now) }
 {
     k < MOST_PARTICLES && is_formed_particle(&code.model.particles.as_slice()[..k], particle)
 }
@@ -62,7 +57,7 @@ pub(crate) fn vertex_break(code: &Code) -> Option<Break>
 }
 
 fn is_vertex(code: &Code, k: usize, vertex: &Vertex) -> bool
-    ensures { IsTrue result ↔ ((k < 512) × IsFormedVertex code.now.model.particles vertex.now) }
+    ensures { IsTrue result ↔ ((k < MOST_VERTICES) × IsFormedVertex code.now.model.particles vertex.now) }
 {
     k < MOST_VERTICES && is_formed_vertex(code.model.particles.as_slice(), vertex)
 }
@@ -113,7 +108,7 @@ fn is_before(earlier: &Flow, flow: &Flow) -> bool
 
 // Whether the flow joins the starts of lines to their ends, one to one.
 fn joins_legs(code: &Code, flow: &Flow) -> bool
-    ensures { IsTrue result ↔ ((j : ℕ) → j < 12 → IsTrue (is_leg_of_flow code.now flow.now.ends j)) }
+    ensures { IsTrue result ↔ ((j : ℕ) → j < MOST_LEGS → IsTrue (is_leg_of_flow code.now flow.now.ends j)) }
 {
     for k in 0..MOST_LEGS {
         if !is_leg_of_flow(code, flow, k) {
@@ -125,7 +120,7 @@ fn joins_legs(code: &Code, flow: &Flow) -> bool
 
 // Whether a flow goes on at a leg, counted from 0, as the leg's colour asks.
 fn is_leg_of_flow(code: &Code, flow: &Flow, k: usize) -> bool
-    requires { k < 12 }
+    requires { k < MOST_LEGS }
     ensures { result ≡ is_leg_of_flow code.now flow.now.ends k }
 {
     let end = flow.ends[k];
@@ -167,7 +162,7 @@ fn ends_line(colour: Colour) -> bool
 /// The first line of a denominator that breaks a rule.
 pub(crate) fn den_break(code: &Code) -> Option<Break>
     requires some { 1 ≤ length code.now.legs }
-    requires few { length code.now.legs ≤ 12 }
+    requires few { length code.now.legs ≤ MOST_LEGS }
     ensures first { IsFirstBreak (den_lines code.now) result }
     ensures within { IfSome result (λ b. b.at < length code.now.dens) }
 {
@@ -184,7 +179,7 @@ pub(crate) fn den_break(code: &Code) -> Option<Break>
 
 fn is_den(code: &Code, k: usize, den: &Den) -> bool
     requires some { 1 ≤ length code.now.legs }
-    requires few { length code.now.legs ≤ 12 }
+    requires few { length code.now.legs ≤ MOST_LEGS }
     requires row { k < length code.now.dens }
     ensures { IsTrue result ↔ IsDen code.now k den.now }
 {
@@ -200,7 +195,7 @@ fn is_behind(earlier: &Den, den: &Den) -> bool
 // Whether a set is the side without leg 1 of an inner edge, where there are n legs.
 fn is_inner(n: u8, legs: LegSet) -> bool
     requires some { 1 ≤ n }
-    requires few { n ≤ 12 }
+    requires few { n ≤ MOST_LEGS }
     ensures { IsTrue result ↔ IsInner n legs }
 {
     let size = usize::from(legs.size());

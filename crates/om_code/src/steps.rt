@@ -10,13 +10,14 @@ use crate::phases::has_phases;
 use crate::{Code, CodeKind, Held, Instr};
 use om_legs::Branches;
 use om_model::colour_row;
+use om_model::limits::MOST_LEGS;
 
 /// The first rule that an instruction breaks, where the slots hold `held` before it.
 pub(crate) fn step_break(code: &Code, held: &[Held], instr: &Instr) -> Option<CodeKind>
     requires slots { HasThreeOrFour code.now }
     requires few { HasFew instr.now }
     requires some_legs { 1 ≤ size_of code.now }
-    requires few_legs { size_of code.now ≤ 12 }
+    requires few_legs { size_of code.now ≤ MOST_LEGS }
     ensures { IsFirstKind code.now held.now instr.now result }
 {
     if !names_all(code, instr) {

@@ -13,6 +13,7 @@ use crate::rows::{den_break, flow_break, leg_break, particle_break, vertex_break
 use crate::slots::{advance, at_start};
 use crate::steps::step_break;
 use crate::{Code, CodeFault, CodeKind, Held, Verified};
+use om_model::limits::{FEWEST_LEGS, MOST_LEGS};
 use om_ring::NoMemory;
 use std::alloc::Global;
 
@@ -90,11 +91,11 @@ fn break_behind_vertices(alloc: Global, code: &Code) -> Result<Option<Break>, No
 // The first line behind the legs that breaks a rule.
 fn break_behind_legs(alloc: Global, code: &Code) -> Result<Option<Break>, NoMemory>
     requires read { CanBeRead code.now }
-    requires few { size_of code.now ≤ 12 }
+    requires few { size_of code.now ≤ MOST_LEGS }
     ensures first { IfOk result (IsFirstBreak (behind_legs code.now)) }
     ensures within { IfOk result (λ r. IfSome r (λ b. b.at < from_flows code.now)) }
 {
-    if code.legs.len() < 3 {
+    if code.legs.len() < FEWEST_LEGS {
         return Ok(Some(Break {
             at: 0,
             kind: CodeKind::Legs,
@@ -109,8 +110,8 @@ fn break_behind_legs(alloc: Global, code: &Code) -> Result<Option<Break>, NoMemo
 // The first line behind the flows that breaks a rule.
 fn break_behind_flows(alloc: Global, code: &Code) -> Result<Option<Break>, NoMemory>
     requires read { CanBeRead code.now }
-    requires some { 3 ≤ size_of code.now }
-    requires few { size_of code.now ≤ 12 }
+    requires some { FEWEST_LEGS ≤ size_of code.now }
+    requires few { size_of code.now ≤ MOST_LEGS }
     ensures first { IfOk result (IsFirstBreak (behind_flows code.now)) }
     ensures within { IfOk result (λ r. IfSome r (λ b. b.at < from_dens code.now)) }
 {
@@ -123,8 +124,8 @@ fn break_behind_flows(alloc: Global, code: &Code) -> Result<Option<Break>, NoMem
 // The first line behind the denominators that breaks a rule.
 fn break_behind_dens(alloc: Global, code: &Code) -> Result<Option<Break>, NoMemory>
     requires read { CanBeRead code.now }
-    requires some { 3 ≤ size_of code.now }
-    requires few { size_of code.now ≤ 12 }
+    requires some { FEWEST_LEGS ≤ size_of code.now }
+    requires few { size_of code.now ≤ MOST_LEGS }
     ensures first { IfOk result (IsFirstBreak (behind_dens code.now)) }
     ensures within { IfOk result (λ r. IfSome r (λ b. b.at < from_slots code.now)) }
 {
@@ -157,8 +158,8 @@ fn slots_break(code: &Code) -> Option<Break>
 // The first line behind the slots that breaks a rule: an instruction, or the end.
 fn instr_break(alloc: Global, code: &Code) -> Result<Option<Break>, NoMemory>
     requires read { CanBeRead code.now }
-    requires some { 3 ≤ size_of code.now }
-    requires few { size_of code.now ≤ 12 }
+    requires some { FEWEST_LEGS ≤ size_of code.now }
+    requires few { size_of code.now ≤ MOST_LEGS }
     ensures first { IfOk result (IsFirstBreak (behind_slots code.now)) }
     ensures within { IfOk result (λ r. IfSome r (λ b. b.at < from_instrs code.now)) }
 {
