@@ -1,9 +1,9 @@
 -- The first line that breaks a rule, from those of two groups of lines.
-use Rattle.std.proofs.Common.{◌≡◌, ℕ, ◌+◌, ◌<◌, ◌≤◌, ◌⊎◌, inl, inr, List, Option, Some, None, refl, sym, ◌∙◌, ap, subst, arith}
+use Rattle.std.proofs.Common.{◌≡◌, ℕ, ◌+◌, ◌<◌, inl, inr, List, Option, Some, None, refl, sym, subst, arith}
 use Rattle.std.specs.Prelude.{◌^◌, IfSome}
 use Rattle.om_code.specs.declared.code.CodeKind.{CodeKind}
 use Rattle.om_code.specs.declared.lines.Break.{Break}
-use Rattle.om_code.specs.Lines.{Group, IsFirstBreak, moved_option, rank, row_lines, then_lines}
+use Rattle.om_code.specs.Lines.{Group, IsFirstBreak, moved_option, row_lines, then_lines}
 
 same-place : (n j k : ℕ) → n + j ≡ n + k → j ≡ k
 same-place n j k e = omega arith

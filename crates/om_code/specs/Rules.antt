@@ -1,11 +1,10 @@
 -- The rules of programs.
-use Rattle.std.specs.Prelude.{◌≡◌, ◌≢◌, ◌⊎◌, ℕ, ◌+◌, ◌-◌, ◌^◌, ◌<◌, ◌≤◌, ◌==◌, cond, nat_lt, nat_le, eqb, List, [], ◌∷◌, length, map, take, Bool, true, false, not, ◌&&◌, ◌||◌, Option, Some, None, slice_get, slice_index, IsTrue}
+use Rattle.std.specs.Prelude.{◌≡◌, ◌≢◌, ℕ, ◌+◌, ◌-◌, ◌<◌, ◌≤◌, ◌==◌, cond, nat_lt, nat_le, eqb, List, [], ◌∷◌, length, take, Bool, true, false, not, ◌&&◌, ◌||◌, Option, Some, None, slice_get, slice_index, IsTrue}
 use Rattle.std.specs.List.{list_all, list_any}
 use Rattle.std.specs.declared.cmp.Ordering.TheVariants.{Less}
 use Rattle.om_colour.specs.declared.Flow.{Flow}
 use Rattle.om_colour.specs.Lines.{starts_line, ends_line}
 use Rattle.om_colour.specs.Order.{flow_order}
-use Rattle.om_legs.specs.declared.branches.Branches.{Branches}
 use Rattle.om_legs.specs.Legs.{Meet, holds, union, complement, all_legs, size, least, minus}
 use Rattle.om_model.specs.declared.limits.TheConstants.{MOST_LEGS, MOST_PARTICLES, MOST_VERTICES}
 use Rattle.om_model.specs.Diagram.{same_numbers, times_in}

@@ -1,4 +1,4 @@
-use Rattle.std.proofs.Common.{◌≤◌, [], get_or, length, refl, true≢false, sym, ◌∙◌, ap, arith}
+use Rattle.std.proofs.Common.{[], get_or, length, true≢false, sym, ◌∙◌, ap, arith}
 use Rattle.om_colour.specs.declared.Flow.{Flow}
 use Rattle.om_code.specs.declared.code.CodeKind.TheVariants as kinds
 use Rattle.om_code.specs.Rules.{IsFlow}

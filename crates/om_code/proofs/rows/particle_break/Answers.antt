@@ -1,4 +1,4 @@
-use Rattle.std.proofs.Common.{◌≤◌, length, refl, true≢false, sym, ◌∙◌, ap, arith}
+use Rattle.std.proofs.Common.{length, true≢false, sym, ◌∙◌, ap, arith}
 use Rattle.om_code.specs.declared.code.CodeKind.TheVariants as kinds
 use Rattle.om_code.specs.Rules.{IsParticle}
 use Rattle.om_code.proofs.FirstRow.{first-at, none-breaks, one-more, row-at}

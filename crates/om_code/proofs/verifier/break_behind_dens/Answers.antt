@@ -1,4 +1,4 @@
-use Rattle.std.proofs.Common.{ℕ, length, subst, sym, ◌∙◌, ap}
+use Rattle.std.proofs.Common.{ℕ, subst, sym, ◌∙◌, ap}
 use Rattle.om_code.proofs.Instrs.{slots-refute}
 use Rattle.om_code.specs.Lines.{IsFirstBreak, behind_dens, behind_slots, moved_option, slots_line, slots_lines}
 use Rattle.om_code.proofs.Groups.{in-first, in-rest}

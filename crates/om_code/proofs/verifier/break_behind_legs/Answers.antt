@@ -2,7 +2,7 @@ use Rattle.std.proofs.Common.{ℕ, ◌+◌, ◌^◌, ◌<◌, ◌≤◌, length,
 use Rattle.om_code.specs.declared.code.CodeKind.TheVariants as kinds
 use Rattle.om_code.specs.Rules.{IsFlow}
 use Rattle.om_code.specs.Rules.{size_of}
-use Rattle.om_code.specs.Lines.{IsFirstBreak, behind_flows, behind_legs, flow_lines, from_dens, moved_option, slots_lines}
+use Rattle.om_code.specs.Lines.{IsFirstBreak, behind_flows, behind_legs, flow_lines, from_dens, moved_option}
 use Rattle.om_code.proofs.Groups.{in-first, in-rest, rows-refute, within-all}
 use Rattle.om_code.proofs.Instrs.{enough-legs, one-at-most}
 use Rattle.om_code.proofs.verifier.break_behind_legs.Goals as goal

@@ -1,4 +1,4 @@
-use Rattle.std.proofs.Common.{ℕ, ◌≡◌, ◌<◌, ◌≤◌, length, ◌∙◌, sym, ap, arith}
+use Rattle.std.proofs.Common.{◌≡◌, ◌<◌, ◌≤◌, length, ◌∙◌, sym, ap, arith}
 use Rattle.om_code.specs.Slots.{after, held_before}
 use Rattle.om_code.proofs.Instrs.{AllBelow, end-first, held-more, instr-at, instr-first, leg-of, no-break, one-more-instr}
 use Rattle.om_code.proofs.verifier.instr_break.Goals as goal
