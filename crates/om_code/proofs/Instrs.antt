@@ -6,7 +6,8 @@ use Rattle.std.proofs.lemmas.Bool.{and_parts, cases_order}
 use Rattle.std.proofs.lemmas.Bool.Decides.{nat_tests}
 use Rattle.std.proofs.lemmas.Option.{slice_get_within, get_or_from_slice_get}
 use Rattle.std.proofs.lemmas.List.{take_more}
-use Rattle.om_model.specs.declared.limits.TheConstants.{FEWEST_LEGS, MOST_LEGS}
+use Rattle.om_legs.specs.declared.leg_set.TheConstants.{MOST_LEGS}
+use Rattle.om_model.specs.declared.limits.TheConstants.{FEWEST_LEGS}
 use Rattle.om_code.specs.declared.code.CodeKind.{CodeKind}
 use Rattle.om_code.specs.declared.code.CodeKind.TheVariants as kinds
 use Rattle.om_code.specs.declared.code.Instr.{Instr}

@@ -1,7 +1,8 @@
 -- The lines of a program's text, which of them break a rule, and the first that does.
 use Rattle.std.specs.Prelude.{◌≡◌, ◌≢◌, ◌⊎◌, ℕ, ◌+◌, ◌<◌, ◌≤◌, ◌==◌, cond, List, length, true, false, Option, Some, None, slice_get}
 use Rattle.std.specs.List.{list_any}
-use Rattle.om_model.specs.declared.limits.TheConstants.{FEWEST_LEGS, MOST_LEGS}
+use Rattle.om_legs.specs.declared.leg_set.TheConstants.{MOST_LEGS}
+use Rattle.om_model.specs.declared.limits.TheConstants.{FEWEST_LEGS}
 use Rattle.om_code.specs.declared.code.CodeKind.{CodeKind}
 use Rattle.om_code.specs.declared.code.CodeKind.TheVariants as kinds
 use Rattle.om_code.specs.declared.code.CodeFault.{CodeFault}

@@ -6,7 +6,8 @@ use Rattle.om_colour.specs.declared.Flow.{Flow}
 use Rattle.om_colour.specs.Lines.{starts_line, ends_line}
 use Rattle.om_colour.specs.Order.{flow_order}
 use Rattle.om_legs.specs.Legs.{Meet, holds, union, complement, all_legs, size, least, minus}
-use Rattle.om_model.specs.declared.limits.TheConstants.{MOST_LEGS, MOST_PARTICLES, MOST_VERTICES}
+use Rattle.om_legs.specs.declared.leg_set.TheConstants.{MOST_LEGS}
+use Rattle.om_model.specs.declared.limits.TheConstants.{MOST_PARTICLES, MOST_VERTICES}
 use Rattle.om_model.specs.Diagram.{same_numbers, times_in}
 use Rattle.om_model.specs.Model.{theory_of, anti_field, colour_of_field}
 use Rattle.om_model.specs.Rules.{IsFormedParticle, IsFormedVertex}

@@ -12,8 +12,8 @@ use crate::fields::count_ends;
 use crate::lines::Break;
 use crate::{Code, CodeKind, Den};
 use om_colour::{Colour, Flow};
-use om_legs::LegSet;
-use om_model::limits::{MOST_LEGS, MOST_PARTICLES, MOST_VERTICES};
+use om_legs::{LegSet, MOST_LEGS};
+use om_model::limits::{MOST_PARTICLES, MOST_VERTICES};
 use om_model::{Particle, Vertex, colour_of_field, is_formed_particle, is_formed_vertex};
 use std::cmp::Ordering;
 
@@ -67,9 +67,9 @@ pub(crate) fn leg_break(code: &Code) -> Option<Break>
     ensures first { IsFirstBreak (leg_lines code.now) result }
     ensures within { IfSome result (λ b. b.at < length code.now.legs) }
 {
-    if code.legs.len() > MOST_LEGS {
+    if code.legs.len() > usize::from(MOST_LEGS) {
         Some(Break {
-            at: MOST_LEGS,
+            at: usize::from(MOST_LEGS),
             kind: CodeKind::Legs,
         })
     } else {
@@ -110,7 +110,7 @@ fn is_before(earlier: &Flow, flow: &Flow) -> bool
 fn joins_legs(code: &Code, flow: &Flow) -> bool
     ensures { IsTrue result ↔ ((j : ℕ) → j < MOST_LEGS → IsTrue (is_leg_of_flow code.now flow.now.ends j)) }
 {
-    for k in 0..MOST_LEGS {
+    for k in 0..usize::from(MOST_LEGS) {
         if !is_leg_of_flow(code, flow, k) {
             return false;
         }

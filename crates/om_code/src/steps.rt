@@ -8,9 +8,8 @@ ghost use Rattle.om_code.specs.Rules.{is_choice, is_slot, names_all, size_of};
 use crate::fitting::{fits, has_sets};
 use crate::phases::has_phases;
 use crate::{Code, CodeKind, Held, Instr};
-use om_legs::Branches;
+use om_legs::{Branches, MOST_LEGS};
 use om_model::colour_row;
-use om_model::limits::MOST_LEGS;
 
 /// The first rule that an instruction breaks, where the slots hold `held` before it.
 pub(crate) fn step_break(code: &Code, held: &[Held], instr: &Instr) -> Option<CodeKind>

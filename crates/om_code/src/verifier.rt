@@ -13,7 +13,8 @@ use crate::rows::{den_break, flow_break, leg_break, particle_break, vertex_break
 use crate::slots::{advance, at_start};
 use crate::steps::step_break;
 use crate::{Code, CodeFault, CodeKind, Held, Verified};
-use om_model::limits::{FEWEST_LEGS, MOST_LEGS};
+use om_legs::MOST_LEGS;
+use om_model::limits::FEWEST_LEGS;
 use om_ring::NoMemory;
 use std::alloc::Global;
 
