@@ -30,4 +30,6 @@ pub use verified::Verified;
 pub use verifier::verify;
 
 #[cfg(test)]
+mod test_programs;
+#[cfg(test)]
 mod tests;
