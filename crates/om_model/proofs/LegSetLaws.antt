@@ -1,22 +1,20 @@
 -- The text of a set of legs, both ways.
-use Rattle.std.proofs.Common.{◌≡◌, ℕ, zero, suc, ◌+◌, ◌-◌, ◌/◌, ◌%◌, ◌^◌, ◌<◌, ◌≤◌, List, [], ◌∷◌, ◌++◌, map, filter, length, decimal, Bool, true, false, cond, eqb, ◌&&◌, ◌||◌, ◌⊎◌, inl, inr, ⊎_elim, refl, ap, ap₂, sym, subst, ◌∙◌, arith, lit<, Some, None, true≢false}
-use Rattle.std.specs.Prelude.{Option, option_map, nat_le, nat_lt, if◌then◌else◌, ◌==◌}
+use Rattle.std.proofs.Common.{◌≡◌, ℕ, zero, suc, ◌+◌, ◌/◌, ◌%◌, ◌<◌, ◌≤◌, List, [], ◌∷◌, map, filter, length, decimal, Bool, true, false, cond, eqb, ◌&&◌, ◌||◌, ◌⊎◌, inl, inr, ⊎_elim, refl, ap, ap₂, sym, subst, ◌∙◌, arith, Some, None}
+use Rattle.std.specs.Prelude.{Option, option_map, nat_le, nat_lt, if◌then◌else◌}
 use Rattle.std.specs.List.{All, join_with_byte, list_all, list_any, range_with_len, slice_split}
 use Rattle.std.proofs.lemmas.Bool.{cases_lt, cases_eq}
 use Rattle.std.proofs.lemmas.Bool.Decides.{nat_tests}
 use Rattle.std.proofs.lemmas.Fmt.{decimal_digit}
 use Rattle.std.proofs.lemmas.List.Elements.{All-from_recursion}
 use Rattle.std.proofs.lemmas.List.Splits.{join_with_byte-slice_split, slice_split_at, slice_split_none}
-use Rattle.om_ring.specs.Spelt.{decimal_below}
 use Rattle.om_ring.proofs.SpeltLemmas.{decimal_read, spelt_found}
-use Rattle.om_legs.specs.Legs.{IsLegSet, holds, legs_of, every_leg, set_of}
+use Rattle.om_legs.specs.Legs.{IsLegSet, holds, legs_of}
 use Rattle.om_legs.proofs.LegLists.{legs_of-empty}
 use Rattle.om_legs.proofs.Bits.{IsLegSet-set_of, holds-set_of, holds-zero, holds_above, same_sets}
 use Rattle.om_colour.proofs.LegNumbers.{decimal_two}
-use Rattle.om_model.specs.LegSetText.{leg_number, numbers_above, set_numbers, legs_numbered, last_number, legs_read, legs_among, leg_set_of_word, leg_set_word, LegSetsAreRead}
-use Rattle.om_model.specs.declared.leg_set_text.LegsRead.{LegsRead}
+use Rattle.om_model.specs.LegSetText.{numbers_above, set_numbers, legs_numbered, last_number, legs_read, legs_among, leg_set_of_word, leg_set_word, LegSetsAreRead}
 use Rattle.om_model.proofs.Counting.{both}
-use Rattle.om_model.proofs.LegSetNumbers.{Splits, numbers-first, numbers-rising, greatest, no_more}
+use Rattle.om_model.proofs.LegSetNumbers.{numbers-first, numbers-rising, greatest, no_more}
 
 -- numbers that rise, each greater than `last` and below 100
 Above : ℕ → List ℕ → Type 0

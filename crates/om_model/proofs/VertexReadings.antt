@@ -1,5 +1,5 @@
 -- A vertex of a well-formed model reads each of its slots once.
-use Rattle.std.proofs.Common.{◌≡◌, ℕ, ◌<◌, ◌⊎◌, inl, inr, map, length, refl, subst, ◌∙◌, arith, Some, None, List}
+use Rattle.std.proofs.Common.{◌≡◌, ℕ, ◌<◌, ◌⊎◌, map, length, refl, subst, ◌∙◌, arith, Some, None, List}
 use Rattle.std.specs.Prelude.{Option}
 use Rattle.std.proofs.lemmas.List.{length-map}
 use Rattle.om_lorentz.specs.Structures.{IsReading, slot_count}
