@@ -1,5 +1,5 @@
 -- What a run leaves with a told file, where nothing is refused before.
-use Rattle.std.proofs.Common.{◌≡◌, ℕ, ◌≤◌, ◌<◌, List, length, Option, Some, None, IfSome, refl, ap, sym, ◌∙◌, subst, arith, inl, inr}
+use Rattle.std.proofs.Common.{◌≡◌, ℕ, ◌≤◌, ◌<◌, List, length, Option, Some, None, IfSome, refl, ap, ap₂, sym, ◌∙◌, subst, arith, inl, inr}
 use Rattle.std.specs.Prelude.{◌⊎◌}
 use Rattle.om_ring.specs.Ops.{Ops}
 use Rattle.om_model.specs.Model.{scattering_of}
@@ -29,8 +29,9 @@ told_long (Some b) file e h = let k : b ≡ file = cc in subst (λ (t : List ℕ
 -- a text is that of one process
 pub one_process : (m : Model) (text : List ℕ) (a b : Process) → SaysProcess m text a → SaysProcess m text b → a ≡ b
 one_process m text a b p q =
+    let first = p.0 in let second = q.0 in
     let legs : a.legs ≡ b.legs = cc in
-    ap (λ (legs : List Leg). let x : Process = record { legs = legs } in x) legs
+    ap₂ (λ (legs : List Leg) (edges : List ℕ). let x : Process = record { legs = legs; edges = edges } in x) legs (p.1 ∙ sym q.1)
 
 module _ {E : Type 0} (o : Ops E) (file : Side) (bytes : List ℕ) (told : file.before ≡ Some bytes) where
   -- the model that the file holds is that of its bytes
@@ -66,10 +67,10 @@ with_process text quiet rest m p ending says few ran = subst (λ (x : Process). 
 
 -- with a model and a process that are evaluated, a run that didn't want memory evaluated them
 pub evaluated : {E : Type 0} (o : Ops E) (show : E → List ℕ) (file input out : Side) (bytes text : List ℕ) (m : Model) (p : Process) (ending : Ending) → file.before ≡ Some bytes → ¬ Failed file
-    → AreEvaluated o bytes text m p → EvalRan o show file text input out ending → (ending ≡ NoMemory) ⊎ Evaluates o show m (scattering_of m p) input out ending
+    → AreEvaluated o bytes text m p → EvalRan o show file text input out ending → (ending ≡ NoMemory) ⊎ Evaluates o show m p input out ending
 evaluated o show file input out bytes text m p ending told nf are ran =
     let quiet = IsUntouched input × IsUntouched out in
-    let rest : Model → Process → Ending → Type 0 = λ m p. Evaluates o show m (scattering_of m p) input out in
+    let rest : Model → Process → Ending → Type 0 = λ m p. Evaluates o show m p input out in
     elim (with_model o file bytes told m are.model quiet (WithScalars quiet (WithProcess text quiet rest)) ending nf ran) [
       | inl e ↦ inl e
       | inr h ↦ inr (with_process text quiet rest m p ending are.process are.few (with_scalars quiet (WithProcess text quiet rest) m ending are.scalars h))

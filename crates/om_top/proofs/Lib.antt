@@ -10,6 +10,8 @@ pub mod Spelled
 pub mod EventSize
 pub mod Places
 pub mod Given
+pub mod NamedEdges
+pub mod LinesOfScalars
 pub mod ScalarModels
 pub mod EdgeSize
 pub mod Evaluations

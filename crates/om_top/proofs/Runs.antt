@@ -1,7 +1,6 @@
 -- What `eval` leaves, from what its parts leave.
 use Rattle.std.proofs.Common.{ℕ, ◌≤◌, List, [], ◌∷◌, length}
 use Rattle.om_ring.specs.Ops.{Ops}
-use Rattle.om_model.specs.Model.{scattering_of}
 use Rattle.om_model.specs.ScalarRules.{HasColourlessScalars}
 use Rattle.om_model.specs.Tree.{Tree}
 use Rattle.om_model.specs.declared.model.Model.{Model}
@@ -39,7 +38,7 @@ module _ {E : Type 0} (o : Ops E) (show : E → List ℕ) (m : Model) (file : Si
   Ends OutFault = Unit {0}
   Ends _ = ⊥
 
-  ends : (p : Process) (ts : List Tree) (ending : Ending) → EvaluatesBy o show m (scattering_of m p) ts input out ending → Ends ending
+  ends : (p : Process) (ts : List Tree) (ending : Ending) → EvaluatesBy o show m p ts input out ending → Ends ending
   ends p ts Done h = tt
   ends p ts EventsNotBuilt h = tt
   ends p ts InputFault h = tt

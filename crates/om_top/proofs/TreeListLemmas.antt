@@ -1,17 +1,18 @@
 -- The list of all diagrams: each diagram stands in it once, and nothing else.
-use Rattle.std.proofs.Common.{◌≡◌, ℕ, zero, suc, ◌-◌, ◌<◌, ◌≤◌, List, [], ◌∷◌, map, flat_map, length, Bool, true, false, cond, ◌&&◌, eqb, ltb, inl, inr, ⊎_elim, refl, ap, ap₂, sym, subst, ◌∙◌, arith, true≢false}
+use Rattle.std.proofs.Common.{◌≡◌, ℕ, zero, suc, ◌-◌, ◌<◌, ◌≤◌, List, [], ◌∷◌, map, flat_map, length, Bool, true, false, cond, ◌&&◌, eqb, ltb, ◌↔◌, inl, inr, ⊎_elim, refl, ap, ap₂, sym, subst, ◌∙◌, arith, true≢false}
 use Rattle.std.proofs.lemmas.Bool.Decides.{nat_tests}
 use Rattle.om_ring.specs.Members.{In, Different}
 use Rattle.om_model.specs.Theory.{Scattering}
 use Rattle.om_model.specs.Tree.{Tree, Branches, legs, legs_all, count}
 use Rattle.om_model.specs.Tree.Tree.{leaf, join}
 use Rattle.om_model.specs.Diagram.{upto, times_in, same_numbers, field_of, fields_of, fits, is_diagram}
-use Rattle.om_model.proofs.Membership.{in_left, in_right, in_either, in_map, in_flat_map}
+use Rattle.om_model.specs.Diagrams.{counts}
+use Rattle.om_model.proofs.Membership.{in_left, in_right, in_either, in_map, in_flat_map, in_filter}
 use Rattle.om_model.proofs.Counting.{both, same_times, length-upto}
 use Rattle.om_top.specs.declared.interactions.Interaction.{Interaction}
 use Rattle.om_top.specs.Choices.{below, orders_of}
-use Rattle.om_top.specs.TreeLists.{branches_over, leaves_over, interactions_at, interactions_of, interactions, is_few, joins_with, joins_at, joins_over, trees_over, diagram_list, AreAll}
-use Rattle.om_top.proofs.ListLemmas.{of_flat_map, of_map, different_append, different_map, different_flat_map, different_one, in_cond, different_cond}
+use Rattle.om_top.specs.TreeLists.{branches_over, leaves_over, interactions_at, interactions_of, interactions, is_few, joins_with, joins_at, joins_over, trees_over, hanging_list, has_edges, diagram_list, AreAll}
+use Rattle.om_top.proofs.ListLemmas.{of_flat_map, of_map, different_append, different_map, different_flat_map, different_one, in_cond, different_cond, different_filter}
 use Rattle.om_top.proofs.Numbers.{Same, same_in, same_length, same_numbers_of, IsRising, rising_upto}
 use Rattle.om_top.proofs.OrderLemmas.{in_below, below_differ, in_orders_of, orders_differ}
 use Rattle.om_top.proofs.FitLemmas.{FitsAt, of_fits, to_fits, length-fields_of, count_le}
@@ -265,14 +266,23 @@ module _ (s : Scattering) where
       let same : eqb f f ≡ true = grind (arith, nat_tests) in
       ap (is_diagram s) h.is ∙ ap₂ ◌&&◌ (ap₂ ◌&&◌ over same) fit
 
+  hanging_differ : Different (hanging_list s)
+  unfolding hanging_list
+  hanging_differ = joins_differ (trees_over s s.size) (trees_sound s.size) (trees_differ s.size) (upto (s.size - 1)) (s.theory.anti (s.field s.size)) (rising_upto (s.size - 1))
+
+  hanging_is : (t : Tree) → In t (hanging_list s) ↔ (is_diagram s t ≡ true)
+  unfolding hanging_list
+  hanging_is t =
+      let f = s.theory.anti (s.field s.size) in let ks = upto (s.size - 1) in (
+        (λ h. top_diagram t (of_joins (trees_over s s.size) (trees_sound s.size) ks f t (rising_upto (s.size - 1)) h)),
+        (λ h. to_joins (trees_over s s.size) (suc s.size) (trees_complete s.size) ks f t (rising_upto (s.size - 1)) (omega (arith, length-upto (s.size - 1))) (diagram_top t h)),
+      )
+
   pub lists_all : AreAll s (diagram_list s)
-  unfolding diagram_list
-  lists_all =
-      let f = s.theory.anti (s.field s.size) in let ks = upto (s.size - 1) in
-      record {
-        different = joins_differ (trees_over s s.size) (trees_sound s.size) (trees_differ s.size) ks f (rising_upto (s.size - 1));
-        members = λ t. (
-          (λ h. top_diagram t (of_joins (trees_over s s.size) (trees_sound s.size) ks f t (rising_upto (s.size - 1)) h)),
-          (λ h. to_joins (trees_over s s.size) (suc s.size) (trees_complete s.size) ks f t (rising_upto (s.size - 1)) (omega (arith, length-upto (s.size - 1))) (diagram_top t h)),
-        );
-      }
+  unfolding diagram_list counts
+  lists_all = record {
+    different = different_filter (has_edges s) (hanging_list s) hanging_differ;
+    members = λ t.
+        let a = in_filter (has_edges s) t (hanging_list s) in let h = hanging_is t in
+        ((λ i. ap₂ ◌&&◌ (h.0 (a.0 i).0) (a.0 i).1), (λ c. let b = both (is_diagram s t) (has_edges s t) c in a.1 (h.1 b.0, b.1)));
+  }

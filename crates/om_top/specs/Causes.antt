@@ -2,7 +2,7 @@
 use Rattle.std.specs.Prelude.{ℕ, ◌≡◌, ◌≢◌, ◌≤◌, ◌<◌, ◌↔◌, ◌⊎◌, Bool, true, false, List, [], ◌∷◌, length, Option, Some, None, Ok, Err}
 use Rattle.om_ring.specs.Ops.{Ops}
 use Rattle.om_ring.specs.Members.{In}
-use Rattle.om_model.specs.Diagram.{is_diagram}
+use Rattle.om_model.specs.Diagrams.{counts}
 use Rattle.om_model.specs.Model.{scattering_of}
 use Rattle.om_model.specs.ProcessText.{legs_of}
 use Rattle.om_model.specs.ScalarRules.{HasColourlessScalars}
@@ -40,9 +40,9 @@ is_silent ending.EventsNotBuilt = true
 is_silent ending.InputFault = true
 is_silent _ = false
 
--- some tree is a diagram
+-- some diagram counts
 abbrev pub HasDiagram : Scattering → Type 0
-HasDiagram s = (t : Tree) × (is_diagram s t ≡ true)
+HasDiagram s = (t : Tree) × (counts s t ≡ true)
 
 -- the text is that of no process, or of one with more legs than are evaluated
 abbrev pub RefusesProcess : Model → List ℕ → Type 0

@@ -1,7 +1,6 @@
 -- What `eval` does and leaves, by how it ends.
 use Rattle.std.specs.Prelude.{ℕ, ◌≡◌, ◌≤◌, ◌<◌, List, length, Err}
 use Rattle.om_ring.specs.Ops.{Ops}
-use Rattle.om_model.specs.Model.{scattering_of}
 use Rattle.om_model.specs.ProcessText.{legs_of}
 use Rattle.om_model.specs.ScalarRules.{HasColourlessScalars}
 use Rattle.om_model.specs.declared.model.Model.{Model}
@@ -29,4 +28,4 @@ WithProcess text quiet rest m ending = (process : Process) × SaysProcess m text
 abbrev pub EvalRan : {E : Type 0} → Ops E → (E → List ℕ) → Side → List ℕ → Side → Side → Ending → Type 0
 EvalRan o show file text input out =
     let quiet = IsUntouched input × IsUntouched out in
-    WithModel o file quiet (WithScalars quiet (WithProcess text quiet (λ m p. Evaluates o show m (scattering_of m p) input out)))
+    WithModel o file quiet (WithScalars quiet (WithProcess text quiet (λ m p. Evaluates o show m p input out)))

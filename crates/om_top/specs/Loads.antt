@@ -1,5 +1,5 @@
 -- What the file of a model and the text of a process give.
-use Rattle.std.specs.Prelude.{ℕ, ◌≡◌, ◌≤◌, ◌<◌, List, length, IfSome, Result, Ok, Err}
+use Rattle.std.specs.Prelude.{ℕ, ◌≡◌, ◌≤◌, ◌<◌, List, [], length, IfSome, Result, Ok, Err}
 use Rattle.om_ring.specs.Ops.{Ops}
 use Rattle.om_model.specs.ProcessText.{legs_of}
 use Rattle.om_model.specs.declared.model.Model.{Model}
@@ -69,7 +69,7 @@ module _ {E : Type 0} (o : Ops E) where
 
 -- the text is that of this process of the model
 abbrev pub SaysProcess : Model → List ℕ → Process → Type 0
-SaysProcess m text process = legs_of m text ≡ Ok process.legs
+SaysProcess m text process = (legs_of m text ≡ Ok process.legs) × (process.edges ≡ [])
 
 -- more legs are not evaluated so far
 abbrev pub most_legs : ℕ

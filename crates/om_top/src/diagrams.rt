@@ -9,6 +9,7 @@ use crate::edge_name::EdgeName;
 use crate::interactions::interactions;
 use crate::listing::Listing;
 use crate::lists::{append, copy_of};
+use crate::named_edges::with_edges;
 use om_model::{Model, Process};
 use om_ring::{List, NoMemory};
 use std::alloc::Global;
@@ -27,9 +28,9 @@ pub struct Diagrams {
     pub(crate) list: List<Diagram>,
 }
 
-/// All diagrams of a process over a model whose vertices have three or four slots each.
+/// All diagrams of a process of at most 12 legs over a model whose vertices have three or four slots each.
 pub fn list_diagrams(alloc: Global, model: &Model, process: &Process) -> Result<Diagrams, NoMemory>
-    requires legs { length process.now.legs ≤ 64 }
+    requires legs { length process.now.legs ≤ 12 }
     requires slots { HasThreeOrFourSlots model.now }
     ensures { IfOk result (ListsDiagrams (scattering_of model.now process.now)) }
 {
@@ -42,7 +43,9 @@ pub fn list_diagrams(alloc: Global, model: &Model, process: &Process) -> Result<
         legs: &legs,
         interactions: &interactions,
     };
-    let list = listing.diagrams()?;
+    let hanging = listing.diagrams()?;
+    let edges = process.edges.as_slice();
+    let list = with_edges(alloc, process.legs.len(), edges, hanging.as_slice())?;
     Ok(Diagrams { legs, list })
 }
 
@@ -107,6 +110,16 @@ impl Diagram {
             vertices: List::new(alloc),
             edges: List::new(alloc),
         }
+    }
+
+    /// The same parts.
+    pub(crate) fn copy(&self, alloc: Global) -> Result<Diagram, NoMemory>
+        ensures { IfOk result (λ d. d ≡ self.now) }
+    {
+        let vertices = copy_of(alloc, self.vertices.as_slice())?;
+        let mut edges = List::new(alloc);
+        append_names(alloc, &mut edges, self.edges.as_slice())?;
+        Ok(Diagram { vertices, edges })
     }
 
     /// One vertex and some edges above it.

@@ -4,13 +4,13 @@ ghost use Rattle.std.specs.Option.{option_copied};
 ghost use Rattle.om_ring.specs.Sums.{sum_over, product_list};
 ghost use Rattle.om_model.specs.Theory.{Scattering};
 ghost use Rattle.om_model.specs.Tree.{Tree};
-ghost use Rattle.om_model.specs.Diagram.{is_diagram};
+ghost use Rattle.om_model.specs.Diagrams.{counts};
 ghost use Rattle.om_model.specs.Event.{momentum_of};
 ghost use Rattle.om_model.specs.Propagator.{difference, square};
 ghost use Rattle.om_model.specs.ScalarRules.{scalar_rules};
-ghost use Rattle.om_model.specs.Lines.{no_lines};
 ghost use Rattle.om_model.specs.Answer.{IsAnswer};
 ghost use Rattle.om_top.specs.AnswerOf.{answer_of};
+ghost use Rattle.om_top.specs.NoLines.{no_lines};
 ghost use Rattle.om_top.specs.EventOf.{AddUp, entry_or_zero, event_of, table_of};
 ghost use Rattle.om_top.specs.Shapes.{ListsDiagrams};
 ghost use Rattle.om_top.specs.Evaluation.{wave_product, vertex_factor, edge_denominator, edge_factor, shape_value, comes_before, lesser_pole, least_pole, least_pole_of};
@@ -349,10 +349,10 @@ fn balances<R: Ring<Mark = L>, L>(
 }
 
 impl Diagrams {
-    /// Whether the process has no diagram.
+    /// Whether no diagram counts.
     pub fn is_empty(&self) -> bool
         ensures { (s : Scattering) → ListsDiagrams s self.now
-            → IsTrue result ↔ ((t : Tree) → is_diagram s t ≡ true → ⊥) }
+            → IsTrue result ↔ ((t : Tree) → counts s t ≡ true → ⊥) }
     {
         self.list.is_empty()
     }

@@ -20,7 +20,7 @@ pub(crate) struct Prepared<E> {
     pub(crate) event: Vec<Incoming<E>>,
 }
 
-/// Takes all memory that the events of a process of at most 64 legs need, and then computes the numbers of the model.
+/// Takes all memory that the events of a process of at most 12 legs need, and then computes the numbers of the model.
 pub(crate) fn prepare<R: Ring<Mark = L>, L>(
     alloc: Global,
     ring: &R,
@@ -28,7 +28,7 @@ pub(crate) fn prepare<R: Ring<Mark = L>, L>(
     process: &Process,
     steps: &mut Steps<L>,
 ) -> Result<Prepared<R::E>, NoMemory>
-    requires legs { length process.now.legs ≤ 64 }
+    requires legs { length process.now.legs ≤ 12 }
     requires slots { HasThreeOrFourSlots model.now }
     ensures { IfOk result (λ x. IsPrepared (R.ops ring.now) model.now process.now x) }
 {

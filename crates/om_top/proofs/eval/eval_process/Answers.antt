@@ -1,7 +1,7 @@
 use Rattle.std.proofs.Common.{◌≡◌, ◌∙◌, List, length, vec_len, Ok, Err, refl, subst, arith}
 use Rattle.om_ring.specs.Ops.{laws_from}
 use Rattle.om_model.specs.ScalarRules.{scalar_rules}
-use Rattle.om_model.specs.Lines.{no_lines}
+use Rattle.om_top.specs.NoLines.{no_lines}
 use Rattle.om_model.specs.Answer.{IsAnswer}
 use Rattle.om_model.specs.Model.{scattering_of}
 use Rattle.om_top.specs.AnswerOf.{answer_of}
