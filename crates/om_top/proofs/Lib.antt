@@ -38,3 +38,5 @@ pub mod ShapeLemmas
 pub mod CountLemmas
 pub mod PoleLemmas
 pub mod EventLemmas
+pub mod CallLemmas
+pub mod CallBounds

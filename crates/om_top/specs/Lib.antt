@@ -30,3 +30,4 @@ pub mod Stages
 pub mod Limits
 pub mod Complete
 pub mod Causes
+pub mod Calls

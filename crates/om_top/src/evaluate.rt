@@ -1,5 +1,6 @@
 //! The answer to an event.
-ghost use Rattle.std.specs.Prelude.{◌≡◌, ℕ, ◌+◌, ◌<◌, map, [], IsTrue, ◌↔◌, true};
+ghost use Rattle.std.specs.Prelude.{◌≡◌, ℕ, ◌+◌, ◌*◌, ◌<◌, ◌≤◌, length, map, IsTrue, ◌↔◌, true};
+ghost use Rattle.std.specs.List.{sum_by};
 ghost use Rattle.std.specs.Option.{option_copied};
 ghost use Rattle.om_ring.specs.Sums.{sum_over, product_list};
 ghost use Rattle.om_model.specs.Theory.{Scattering};
@@ -10,6 +11,7 @@ ghost use Rattle.om_model.specs.Propagator.{difference, square};
 ghost use Rattle.om_model.specs.ScalarRules.{scalar_rules};
 ghost use Rattle.om_model.specs.Answer.{IsAnswer};
 ghost use Rattle.om_top.specs.AnswerOf.{answer_of};
+ghost use Rattle.om_top.specs.Calls.{answer_calls, edge_calls, pole_calls, search_calls, value_calls};
 ghost use Rattle.om_top.specs.NoLines.{no_lines};
 ghost use Rattle.om_top.specs.EventOf.{AddUp, entry_or_zero, event_of, table_of};
 ghost use Rattle.om_top.specs.Shapes.{ListsDiagrams};
@@ -61,8 +63,9 @@ fn momentum_of<R: Ring<Mark = L>, L>(
     steps: &mut Steps<L>,
 ) -> R::E
     requires { mu < 4 }
-    ensures { let o = R.ops ring.now in
+    ensures value { let o = R.ops ring.now in
         result ≡ momentum_of o (event_of o incoming.now) legs.now mu }
+    ensures calls { steps.new ≤ steps.old + length legs.now * R.cost ring.now }
 {
     let mut total = ring.zero();
     for leg in legs {
@@ -79,8 +82,9 @@ fn wave_product<R: Ring<Mark = L>, L>(
     legs: &[u8],
     steps: &mut Steps<L>,
 ) -> R::E
-    ensures { let o = R.ops ring.now in
+    ensures value { let o = R.ops ring.now in
         result ≡ wave_product o (event_of o incoming.now) legs.now }
+    ensures calls { steps.new ≤ steps.old + length legs.now * R.cost ring.now }
 {
     let mut product = ring.one();
     for leg in legs {
@@ -92,7 +96,8 @@ fn wave_product<R: Ring<Mark = L>, L>(
 
 /// `x - y`.
 fn difference<R: Ring<Mark = L>, L>(ring: &R, x: R::E, y: R::E, steps: &mut Steps<L>) -> R::E
-    ensures { result ≡ difference (R.ops ring.now) x y }
+    ensures value { result ≡ difference (R.ops ring.now) x y }
+    ensures calls { steps.new ≤ steps.old + 2 * R.cost ring.now }
 {
     let opposite = ring.neg(y, steps);
     ring.add(x, opposite, steps)
@@ -100,7 +105,8 @@ fn difference<R: Ring<Mark = L>, L>(ring: &R, x: R::E, y: R::E, steps: &mut Step
 
 /// `x - y * y`.
 fn less_square<R: Ring<Mark = L>, L>(ring: &R, x: R::E, y: R::E, steps: &mut Steps<L>) -> R::E
-    ensures { let o = R.ops ring.now in result ≡ difference o x (o.times y y) }
+    ensures value { let o = R.ops ring.now in result ≡ difference o x (o.times y y) }
+    ensures calls { steps.new ≤ steps.old + 3 * R.cost ring.now }
 {
     let square = ring.mul(y, y, steps);
     difference(ring, x, square, steps)
@@ -113,8 +119,9 @@ fn square_of<R: Ring<Mark = L>, L>(
     legs: &[u8],
     steps: &mut Steps<L>,
 ) -> R::E
-    ensures { let o = R.ops ring.now in
+    ensures value { let o = R.ops ring.now in
         result ≡ square o (momentum_of o (event_of o incoming.now) legs.now) }
+    ensures calls { steps.new ≤ steps.old + (4 * length legs.now + 10) * R.cost ring.now }
 {
     let p0 = momentum_of(ring, incoming, legs, 0, steps);
     let p1 = momentum_of(ring, incoming, legs, 1, steps);
@@ -134,8 +141,9 @@ fn denominator<R: Ring<Mark = L>, L>(
     edge: &EdgeName,
     steps: &mut Steps<L>,
 ) -> R::E
-    ensures { let o = R.ops ring.now in
+    ensures value { let o = R.ops ring.now in
         result ≡ edge_denominator o table.now (event_of o incoming.now) edge.now }
+    ensures calls { steps.new ≤ steps.old + (4 * length edge.now.legs + 16) * R.cost ring.now }
 {
     let particle = edge.field() as usize / 2;
     let mass = entry_or_zero(ring, table.masses.as_slice(), particle);
@@ -156,8 +164,9 @@ fn edge_factor<R: Ring<Mark = L>, L>(
     edge: &EdgeName,
     steps: &mut Steps<L>,
 ) -> R::E
-    ensures { let o = R.ops ring.now in
+    ensures value { let o = R.ops ring.now in
         result ≡ edge_factor o table.now (event_of o incoming.now) edge.now }
+    ensures calls { steps.new ≤ steps.old + (4 * length edge.now.legs + 19) * R.cost ring.now }
 {
     let denominator = denominator(ring, table, incoming, edge, steps);
     let inverse = match ring.inverse(denominator, steps) {
@@ -176,7 +185,8 @@ fn vertex_factor<R: Ring<Mark = L>, L>(
     row: usize,
     steps: &mut Steps<L>,
 ) -> R::E
-    ensures { result ≡ vertex_factor (R.ops ring.now) table.now row }
+    ensures value { result ≡ vertex_factor (R.ops ring.now) table.now row }
+    ensures calls { steps.new ≤ steps.old + 1 * R.cost ring.now }
 {
     let factor = entry_or_zero(ring, table.factors.as_slice(), row);
     ring.mul(ring.imag(), factor, steps)
@@ -189,8 +199,9 @@ fn vertex_product<R: Ring<Mark = L>, L>(
     vertices: &[usize],
     steps: &mut Steps<L>,
 ) -> R::E
-    ensures { let o = R.ops ring.now in
+    ensures value { let o = R.ops ring.now in
         result ≡ product_list o (map (vertex_factor o table.now) vertices.now) }
+    ensures calls { steps.new ≤ steps.old + (2 * length vertices.now) * R.cost ring.now }
 {
     let mut product = ring.one();
     for vertex in vertices {
@@ -208,8 +219,9 @@ fn edge_product<R: Ring<Mark = L>, L>(
     edges: &[EdgeName],
     steps: &mut Steps<L>,
 ) -> R::E
-    ensures { let o = R.ops ring.now in
+    ensures value { let o = R.ops ring.now in
         result ≡ product_list o (map (edge_factor o table.now (event_of o incoming.now)) edges.now) }
+    ensures calls { steps.new ≤ steps.old + sum_by edge_calls edges.now * R.cost ring.now }
 {
     let mut product = ring.one();
     for edge in edges {
@@ -227,8 +239,9 @@ fn value_of<R: Ring<Mark = L>, L>(
     diagram: &Diagram,
     steps: &mut Steps<L>,
 ) -> R::E
-    ensures { let o = R.ops ring.now in
+    ensures value { let o = R.ops ring.now in
         result ≡ shape_value o table.now (event_of o incoming.now) diagram.now }
+    ensures calls { steps.new ≤ steps.old + (2 * length diagram.now.vertices + sum_by edge_calls diagram.now.edges + 1) * R.cost ring.now }
 {
     let vertices = vertex_product(ring, table, diagram.vertices.as_slice(), steps);
     let edges = edge_product(ring, table, incoming, diagram.edges.as_slice(), steps);
@@ -243,8 +256,9 @@ fn sum_of_values<R: Ring<Mark = L>, L>(
     diagrams: &[Diagram],
     steps: &mut Steps<L>,
 ) -> R::E
-    ensures { let o = R.ops ring.now in
+    ensures value { let o = R.ops ring.now in
         result ≡ sum_over o diagrams.now (shape_value o table.now (event_of o incoming.now)) }
+    ensures calls { steps.new ≤ steps.old + sum_by value_calls diagrams.now * R.cost ring.now }
 {
     let mut total = ring.zero();
     for diagram in diagrams {
@@ -273,8 +287,9 @@ fn lesser_pole<'a, R: Ring<Mark = L>, L>(
     edge: &'a EdgeName,
     steps: &mut Steps<L>,
 ) -> Option<&'a EdgeName>
-    ensures { let o = R.ops ring.now in
+    ensures value { let o = R.ops ring.now in
         option_copied result ≡ lesser_pole o table.now (event_of o incoming.now) (option_copied found.entry) edge.now }
+    ensures calls { steps.new ≤ steps.old + pole_calls edge.now * R.cost ring.now }
 {
     let denominator = denominator(ring, table, incoming, edge, steps);
     let is_pole = ring.inverse(denominator, steps).is_none();
@@ -294,8 +309,9 @@ fn least_pole<'a, R: Ring<Mark = L>, L>(
     edges: &'a [EdgeName],
     steps: &mut Steps<L>,
 ) -> Option<&'a EdgeName>
-    ensures { let o = R.ops ring.now in
+    ensures value { let o = R.ops ring.now in
         option_copied result ≡ least_pole o table.now (event_of o incoming.now) (option_copied found.entry) edges.now }
+    ensures calls { steps.new ≤ steps.old + sum_by pole_calls edges.now * R.cost ring.now }
 {
     let mut least = found;
     for edge in edges {
@@ -312,8 +328,9 @@ fn least_pole_of<'a, R: Ring<Mark = L>, L>(
     diagrams: &'a [Diagram],
     steps: &mut Steps<L>,
 ) -> Option<&'a EdgeName>
-    ensures { let o = R.ops ring.now in
+    ensures value { let o = R.ops ring.now in
         option_copied result ≡ least_pole_of o table.now (event_of o incoming.now) None diagrams.now }
+    ensures calls { steps.new ≤ steps.old + sum_by search_calls diagrams.now * R.cost ring.now }
 {
     let mut least = None;
     for diagram in diagrams {
@@ -336,8 +353,9 @@ fn balances<R: Ring<Mark = L>, L>(
     legs: &[u8],
     steps: &mut Steps<L>,
 ) -> bool
-    ensures { let o = R.ops ring.now in
+    ensures value { let o = R.ops ring.now in
         IsTrue result ↔ AddUp o (event_of o incoming.now) legs.now }
+    ensures calls { steps.new ≤ steps.old + (4 * length legs.now) * R.cost ring.now }
 {
     for mu in 0..4 {
         let total = momentum_of(ring, incoming, legs, mu, steps);
@@ -367,9 +385,10 @@ impl Diagrams {
         incoming: &[Incoming<R::E>],
         steps: &mut Steps<L>,
     ) -> Answer<'_, R::E>
-        ensures { let o = R.ops ring.now in
+        ensures value { let o = R.ops ring.now in
             (s : Scattering) → ListsDiagrams s self.now
             → IsAnswer o s (scalar_rules o (table_of o table.now)) no_lines (event_of o incoming.now) (answer_of result) }
+        ensures calls { steps.new ≤ steps.old + answer_calls (length self.now.legs) self.now.list * R.cost ring.now }
     {
         let (legs, diagrams) = (self.legs.as_slice(), self.list.as_slice());
         if !balances(ring, incoming, legs, steps) {

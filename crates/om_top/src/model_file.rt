@@ -1,8 +1,9 @@
 //! The model of a file.
-ghost use Rattle.std.specs.Prelude.{◌≡◌, ◌↔◌, IsTrue};
+ghost use Rattle.std.specs.Prelude.{◌≡◌, ℕ, ◌+◌, ◌*◌, ◌≤◌, ◌↔◌, IsTrue};
 ghost use Rattle.om_lorentz.specs.declared.structures.Spin.TheVariants.{Scalar};
 ghost use Rattle.om_colour.specs.declared.Colour.TheVariants.{One};
 ghost use Rattle.om_model.specs.ScalarRules.{HasColourlessScalars};
+ghost use Rattle.om_top.specs.Calls.{LoadMayCall, file_calls};
 ghost use Rattle.om_top.specs.Loads.{LoadsModel, ReadsModel};
 ghost use Rattle.om_top.specs.Outside.{side};
 
@@ -26,7 +27,9 @@ pub(crate) fn load_model<R: Ring<Mark = L>, F: Folder, L>(
     name: &str,
     steps: &mut Steps<L>,
 ) -> Result<Model, Ending>
-    ensures { LoadsModel (R.ops ring.now) (side (λ f. F.file f name.now) (λ f. F.faults f name.now) files.old files.new) result }
+    ensures model { LoadsModel (R.ops ring.now) (side (λ f. F.file f name.now) (λ f. F.faults f name.now) files.old files.new) result }
+    ensures calls { let file = side (λ f. F.file f name.now) (λ f. F.faults f name.now) files.old files.new in
+        (n : ℕ) × LoadMayCall file result n × (steps.new ≤ steps.old + n * R.cost ring.now) }
 {
     match read_file(alloc, files, name, MOST_BYTES) {
         Ok(bytes) => model_of(alloc, ring, &bytes, steps),
@@ -43,7 +46,8 @@ fn model_of<R: Ring<Mark = L>, L>(
     bytes: &[u8],
     steps: &mut Steps<L>,
 ) -> Result<Model, Ending>
-    ensures { ReadsModel (R.ops ring.now) bytes.now result }
+    ensures model { ReadsModel (R.ops ring.now) bytes.now result }
+    ensures calls { steps.new ≤ steps.old + file_calls bytes.now * R.cost ring.now }
 {
     match read_model(alloc, ring, bytes, steps) {
         Ok(model) => Ok(model),

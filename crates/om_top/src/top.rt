@@ -1,6 +1,7 @@
 //! The top call.
-ghost use Rattle.std.specs.Prelude.{◌≡◌, map, string_bytes};
+ghost use Rattle.std.specs.Prelude.{◌≡◌, ℕ, ◌+◌, ◌*◌, ◌≤◌, map, string_bytes};
 ghost use Rattle.om_top.specs.declared.ending.Ending.{Ending as EndingOf};
+ghost use Rattle.om_top.specs.Calls.{MayCall};
 ghost use Rattle.om_top.specs.Command.{command_of as asked_of};
 ghost use Rattle.om_top.specs.Limits.{IsWithinLimits};
 ghost use Rattle.om_top.specs.Message.{Told, status_of};
@@ -37,7 +38,7 @@ pub fn run<R: Ring<Mark = L>, F: Folder, S: Source, O: Sink, E: Sink, L>(
     steps: &mut Steps<L>,
 ) -> u8
     requires { IsWithinLimits (map (λ w. string_bytes w) words.now) }
-    ensures { let outside : Outside = record {
+    ensures ran { let outside : Outside = record {
       file = λ name. side (λ f. F.file f name) (λ f. F.faults f name) files.old files.new;
       input = side S.left S.faults input.old input.new;
       out = side O.written O.faults out.old out.new;
@@ -45,6 +46,12 @@ pub fn run<R: Ring<Mark = L>, F: Folder, S: Source, O: Sink, E: Sink, L>(
         (ending : EndingOf) × (result ≡ status_of ending)
         × Ran (R.ops ring.now) (R.text ring.now) (asked_of (map (λ w. string_bytes w) words.now)) outside ending
         × Told (side E.written E.faults err.old err.new) ending }
+    ensures calls { let outside : Outside = record {
+      file = λ name. side (λ f. F.file f name) (λ f. F.faults f name) files.old files.new;
+      input = side S.left S.faults input.old input.new;
+      out = side O.written O.faults out.old out.new;
+    } in
+        (n : ℕ) × MayCall (R.ops ring.now) (asked_of (map (λ w. string_bytes w) words.now)) outside n × (steps.new ≤ steps.old + n * R.cost ring.now) }
 {
     let ending = perform(alloc, ring, words, files, input, out, steps);
     report(err, ending);
@@ -61,12 +68,18 @@ fn perform<R: Ring<Mark = L>, F: Folder, S: Source, O: Sink, L>(
     out: &mut O,
     steps: &mut Steps<L>,
 ) -> Ending
-    ensures { let outside : Outside = record {
+    ensures ran { let outside : Outside = record {
       file = λ name. side (λ f. F.file f name) (λ f. F.faults f name) files.old files.new;
       input = side S.left S.faults input.old input.new;
       out = side O.written O.faults out.old out.new;
     } in
         Ran (R.ops ring.now) (R.text ring.now) (asked_of (map (λ w. string_bytes w) words.now)) outside result }
+    ensures calls { let outside : Outside = record {
+      file = λ name. side (λ f. F.file f name) (λ f. F.faults f name) files.old files.new;
+      input = side S.left S.faults input.old input.new;
+      out = side O.written O.faults out.old out.new;
+    } in
+        (n : ℕ) × MayCall (R.ops ring.now) (asked_of (map (λ w. string_bytes w) words.now)) outside n × (steps.new ≤ steps.old + n * R.cost ring.now) }
 {
     match command_of(words) {
         Command::Check(name) => check(alloc, ring, files, name, out, steps),
