@@ -1,11 +1,9 @@
 -- What a run leaves with a told file, where nothing is refused before.
-use Rattle.std.proofs.Common.{◌≡◌, ℕ, ◌≤◌, ◌<◌, List, length, Option, Some, None, IfSome, refl, ap, ap₂, sym, ◌∙◌, subst, arith, inl, inr}
+use Rattle.std.proofs.Common.{◌≡◌, ℕ, ◌≤◌, ◌<◌, List, length, Option, Some, None, IfSome, refl, ap, sym, ◌∙◌, subst, arith, inl, inr}
 use Rattle.std.specs.Prelude.{◌⊎◌}
 use Rattle.om_ring.specs.Ops.{Ops}
-use Rattle.om_model.specs.Model.{scattering_of}
 use Rattle.om_model.specs.ScalarRules.{HasColourlessScalars}
 use Rattle.om_model.specs.declared.model.Model.{Model}
-use Rattle.om_model.specs.declared.process.Leg.{Leg}
 use Rattle.om_model.specs.declared.process.Process.{Process}
 use Rattle.om_top.specs.Causes.{AreEvaluated}
 use Rattle.om_top.specs.Eval.{Evaluates}
@@ -28,10 +26,7 @@ told_long (Some b) file e h = let k : b ≡ file = cc in subst (λ (t : List ℕ
 
 -- a text is that of one process
 pub one_process : (m : Model) (text : List ℕ) (a b : Process) → SaysProcess m text a → SaysProcess m text b → a ≡ b
-one_process m text a b p q =
-    let first = p.0 in let second = q.0 in
-    let legs : a.legs ≡ b.legs = cc in
-    ap₂ (λ (legs : List Leg) (edges : List ℕ). let x : Process = record { legs = legs; edges = edges } in x) legs (p.1 ∙ sym q.1)
+one_process m text a b p q = cc
 
 module _ {E : Type 0} (o : Ops E) (file : Side) (bytes : List ℕ) (told : file.before ≡ Some bytes) where
   -- the model that the file holds is that of its bytes

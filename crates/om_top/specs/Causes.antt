@@ -4,7 +4,7 @@ use Rattle.om_ring.specs.Ops.{Ops}
 use Rattle.om_ring.specs.Members.{In}
 use Rattle.om_model.specs.Diagrams.{counts}
 use Rattle.om_model.specs.Model.{scattering_of}
-use Rattle.om_model.specs.ProcessText.{legs_of}
+use Rattle.om_model.specs.ProcessText.{process_of}
 use Rattle.om_model.specs.ScalarRules.{HasColourlessScalars}
 use Rattle.om_model.specs.Theory.{Scattering}
 use Rattle.om_model.specs.Tree.{Tree}
@@ -47,7 +47,7 @@ HasDiagram s = (t : Tree) × (counts s t ≡ true)
 -- the text is that of no process, or of one with more legs than are evaluated
 abbrev pub RefusesProcess : Model → List ℕ → Type 0
 RefusesProcess m text =
-    ((fault : ProcessFault) × (legs_of m text ≡ Err fault)) ⊎ ((p : Process) × SaysProcess m text p × (most_legs < length p.legs))
+    ((fault : ProcessFault) × (process_of m text ≡ Err fault)) ⊎ ((p : Process) × SaysProcess m text p × (most_legs < length p.legs))
 
 -- the command can't be done with such a model
 abbrev pub IsNotBuilt : Command → Model → Type 0

@@ -1,7 +1,7 @@
 -- What `eval` does and leaves, by how it ends.
 use Rattle.std.specs.Prelude.{ℕ, ◌≡◌, ◌≤◌, ◌<◌, List, length, Err}
 use Rattle.om_ring.specs.Ops.{Ops}
-use Rattle.om_model.specs.ProcessText.{legs_of}
+use Rattle.om_model.specs.ProcessText.{process_of}
 use Rattle.om_model.specs.ScalarRules.{HasColourlessScalars}
 use Rattle.om_model.specs.declared.model.Model.{Model}
 use Rattle.om_model.specs.declared.process.Process.{Process}
@@ -20,7 +20,7 @@ WithScalars quiet rest m ending = HasColourlessScalars m × rest m ending
 
 -- Without a process: what is wrong with the text. `rest` is what stands with a process that is evaluated.
 abbrev pub WithProcess : List ℕ → Type 0 → (Model → Process → Ending → Type 0) → Model → Ending → Type 0
-WithProcess text quiet rest m (ProcessFault fault) = (legs_of m text ≡ Err fault) × quiet
+WithProcess text quiet rest m (ProcessFault fault) = (process_of m text ≡ Err fault) × quiet
 WithProcess text quiet rest m ProcessNotBuilt = (process : Process) × SaysProcess m text process × (most_legs < length process.legs) × quiet
 WithProcess text quiet rest m ending = (process : Process) × SaysProcess m text process × (length process.legs ≤ most_legs) × rest m process ending
 

@@ -1,7 +1,7 @@
 -- What the file of a model and the text of a process give.
-use Rattle.std.specs.Prelude.{ℕ, ◌≡◌, ◌≤◌, ◌<◌, List, [], length, IfSome, Result, Ok, Err}
+use Rattle.std.specs.Prelude.{ℕ, ◌≡◌, ◌≤◌, ◌<◌, List, length, IfSome, Result, Ok, Err}
 use Rattle.om_ring.specs.Ops.{Ops}
-use Rattle.om_model.specs.ProcessText.{legs_of}
+use Rattle.om_model.specs.ProcessText.{process_of}
 use Rattle.om_model.specs.declared.model.Model.{Model}
 use Rattle.om_model.specs.declared.process.Process.{Process}
 use Rattle.om_modelfile.specs.ModelOf.{SaysModel}
@@ -69,7 +69,7 @@ module _ {E : Type 0} (o : Ops E) where
 
 -- the text is that of this process of the model
 abbrev pub SaysProcess : Model → List ℕ → Process → Type 0
-SaysProcess m text process = (legs_of m text ≡ Ok process.legs) × (process.edges ≡ [])
+SaysProcess m text process = process_of m text ≡ Ok process
 
 -- more legs are not evaluated so far
 abbrev pub most_legs : ℕ
@@ -77,7 +77,7 @@ most_legs = 5
 
 -- why there is no process that is evaluated
 abbrev pub LoadsNoProcess : Model → List ℕ → Ending → Type 0
-LoadsNoProcess m text (ending.ProcessFault fault) = legs_of m text ≡ Err fault
+LoadsNoProcess m text (ending.ProcessFault fault) = process_of m text ≡ Err fault
 LoadsNoProcess m text ending.ProcessNotBuilt = (process : Process) × SaysProcess m text process × (most_legs < length process.legs)
 LoadsNoProcess m text ending.NoMemory = Unit {0}
 LoadsNoProcess m text _ = ⊥

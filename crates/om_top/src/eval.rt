@@ -1,5 +1,5 @@
 //! `eval` answers an event.
-ghost use Rattle.std.specs.Prelude.{◌≡◌, ℕ, ◌+◌, ◌*◌, ◌≤◌, All, length, List};
+ghost use Rattle.std.specs.Prelude.{◌≡◌, ℕ, ◌+◌, ◌*◌, ◌<◌, ◌≤◌, ◌^◌, All, length, List};
 ghost use Rattle.om_model.specs.Diagrams.{AreDiagrams};
 ghost use Rattle.om_model.specs.Model.{scattering_of};
 ghost use Rattle.om_model.specs.Rules.{IsAccepted};
@@ -42,6 +42,7 @@ pub(crate) fn eval<R: Ring<Mark = L>, F: Folder, S: Source, O: Sink, L>(
     out: &mut O,
     steps: &mut Steps<L>,
 ) -> Ending
+    requires { length process.now < 2 ^ 31 }
     ensures ran { let file = side (λ f. F.file f name.now) (λ f. F.faults f name.now) files.old files.new in
         let input = side S.left S.faults input.old input.new in
         let out = side O.written O.faults out.old out.new in

@@ -7,7 +7,8 @@ ghost use Rattle.om_model.specs.Theory.{Scattering};
 ghost use Rattle.om_model.specs.Tree.{Tree};
 ghost use Rattle.om_model.specs.Diagrams.{counts};
 ghost use Rattle.om_model.specs.Event.{momentum_of};
-ghost use Rattle.om_model.specs.Propagator.{difference, square};
+ghost use Rattle.om_lorentz.specs.Propagators.{momentum_square};
+ghost use Rattle.om_model.specs.Entries.{four_of};
 ghost use Rattle.om_model.specs.ScalarRules.{scalar_rules};
 ghost use Rattle.om_model.specs.Answer.{IsAnswer};
 ghost use Rattle.om_top.specs.AnswerOf.{answer_of};
@@ -96,7 +97,7 @@ fn wave_product<R: Ring<Mark = L>, L>(
 
 /// `x - y`.
 fn difference<R: Ring<Mark = L>, L>(ring: &R, x: R::E, y: R::E, steps: &mut Steps<L>) -> R::E
-    ensures value { result ≡ difference (R.ops ring.now) x y }
+    ensures value { let o = R.ops ring.now in result ≡ o.plus x (o.minus y) }
     ensures calls { steps.new ≤ steps.old + 2 * R.cost ring.now }
 {
     let opposite = ring.neg(y, steps);
@@ -105,7 +106,7 @@ fn difference<R: Ring<Mark = L>, L>(ring: &R, x: R::E, y: R::E, steps: &mut Step
 
 /// `x - y * y`.
 fn less_square<R: Ring<Mark = L>, L>(ring: &R, x: R::E, y: R::E, steps: &mut Steps<L>) -> R::E
-    ensures value { let o = R.ops ring.now in result ≡ difference o x (o.times y y) }
+    ensures value { let o = R.ops ring.now in result ≡ o.plus x (o.minus (o.times y y)) }
     ensures calls { steps.new ≤ steps.old + 3 * R.cost ring.now }
 {
     let square = ring.mul(y, y, steps);
@@ -120,7 +121,7 @@ fn square_of<R: Ring<Mark = L>, L>(
     steps: &mut Steps<L>,
 ) -> R::E
     ensures value { let o = R.ops ring.now in
-        result ≡ square o (momentum_of o (event_of o incoming.now) legs.now) }
+        result ≡ momentum_square o (four_of (momentum_of o (event_of o incoming.now) legs.now)) }
     ensures calls { steps.new ≤ steps.old + (4 * length legs.now + 10) * R.cost ring.now }
 {
     let p0 = momentum_of(ring, incoming, legs, 0, steps);
@@ -151,8 +152,8 @@ fn denominator<R: Ring<Mark = L>, L>(
     let square = square_of(ring, incoming, edge.legs(), steps);
     let mass_square = ring.mul(mass, mass, steps);
     let shifted = difference(ring, square, mass_square, steps);
-    let mass_width = ring.mul(mass, width, steps);
-    let damping = ring.mul(ring.imag(), mass_width, steps);
+    let imaginary_mass = ring.mul(ring.imag(), mass, steps);
+    let damping = ring.mul(imaginary_mass, width, steps);
     ring.add(shifted, damping, steps)
 }
 

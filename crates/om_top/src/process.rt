@@ -1,5 +1,5 @@
 //! The process of a text.
-ghost use Rattle.std.specs.Prelude.{◌≤◌, length};
+ghost use Rattle.std.specs.Prelude.{◌<◌, ◌≤◌, ◌^◌, length};
 ghost use Rattle.om_top.specs.Loads.{LoadsProcess};
 
 use crate::ending::Ending;
@@ -11,7 +11,8 @@ const MOST_LEGS: usize = 5;
 
 /// The process of the model that a text is. Where there is none that is evaluated, the answer is how the run ends.
 pub(crate) fn load_process(alloc: Global, model: &Model, text: &str) -> Result<Process, Ending>
-    requires { length model.now.particles ≤ 32768 }
+    requires rows { length model.now.particles ≤ 2 ^ 15 }
+    requires bytes { length text.now < 2 ^ 31 }
     ensures { LoadsProcess model.now text.now result }
 {
     match read_process(alloc, model, text.as_bytes()) {

@@ -68,6 +68,7 @@ fn perform<R: Ring<Mark = L>, F: Folder, S: Source, O: Sink, L>(
     out: &mut O,
     steps: &mut Steps<L>,
 ) -> Ending
+    requires { IsWithinLimits (map (λ w. string_bytes w) words.now) }
     ensures ran { let outside : Outside = record {
       file = λ name. side (λ f. F.file f name) (λ f. F.faults f name) files.old files.new;
       input = side S.left S.faults input.old input.new;

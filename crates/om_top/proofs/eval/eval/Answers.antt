@@ -12,8 +12,8 @@ returns-in-Err-clause-ran g c =
     let out = side g.O.Sink.written g.O.Sink.faults c.args.out.now c.args.out.now in
     without_model (g.R.Ring.ops c.args.ring.now) (g.R.Ring.text c.args.ring.now) file c.args.process.now input out c.in-Err.ending c.in-Err.ensures.model (refl, refl)
 
-pub load_process-requires : goal.load_process-requires
-load_process-requires g c = omega (arith, few_particles (g.R.Ring.ops c.args.ring.now) c.in-Ok.model c.in-Ok.ensures.model.2.says.1)
+pub load_process-requires-clause-rows : goal.load_process-requires-clause-rows
+load_process-requires-clause-rows g c = omega (arith, few_particles (g.R.Ring.ops c.args.ring.now) c.in-Ok.model c.in-Ok.ensures.model.2.says.1)
 
 pub returns-in-Err-load_process-clause-ran : goal.returns-in-Err-load_process-clause-ran
 returns-in-Err-load_process-clause-ran g c =
