@@ -5,6 +5,7 @@ use Rattle.om_ring.specs.Ops.{Ops, Laws}
 use Rattle.om_ring.specs.Sums.{sum_over}
 use Rattle.om_ring.proofs.RingLemmas.{times_left_comm}
 use Rattle.om_ring.proofs.SumLemmas.{sum_over-same, sum_over-map, times-sum_over, sum_over-same_members}
+use Rattle.om_ring.proofs.Members.{of_map}
 use Rattle.om_model.specs.Order.{BeforeAll, Rising, rising_of, insert, numbers_lt}
 use Rattle.om_model.specs.Theory.{Scattering}
 use Rattle.om_model.specs.Tree.{Tree, Branches, legs_all, tree_lt}
@@ -28,7 +29,7 @@ use Rattle.om_top.specs.declared.event.Table.{Table as Numbers}
 use Rattle.om_top.specs.Shapes.{shape_of, ListsDiagrams}
 use Rattle.om_top.specs.TreeLists.{has_edges}
 use Rattle.om_top.specs.Evaluation.{rules_of, wave_product, shape_value, shapes_value}
-use Rattle.om_top.proofs.ListLemmas.{of_map, of_flat_map, empty}
+use Rattle.om_top.proofs.ListLemmas.{of_flat_map, empty}
 use Rattle.om_top.proofs.Numbers.{Same, gather, gather_same}
 use Rattle.om_top.proofs.TreeListLemmas.{diagram_top, few_legs}
 use Rattle.om_top.proofs.ValueLemmas.{value_is}
@@ -144,9 +145,9 @@ module _ (s : Scattering) (d : Diagrams) (h : ListsDiagrams s d) where
     pole_of name i p =
         let w = of_flat_map (λ (x : Diagram). x.edges) name d.list i in
         let P : List Diagram → Type 0 = λ ds. In w.source ds in
-        let u = of_map (shape_of s) w.source h.trees (subst P h.list w.is_in) in
+        let u = of_map (shape_of s) h.trees w.source (subst P h.list w.is_in) in
         let Q : Diagram → Type 0 = λ x. In name x.edges in
-        let v = of_map (edge_name s) name (inner_edges u.source) (subst Q u.is w.gives) in
+        let v = of_map (edge_name s) (inner_edges u.source) name (subst Q u.is w.gives) in
         record { diagram = u.source; edge = v.source; is_diagram = (in_rising_of tree_lt tree_order u.source h.trees).0 u.is_in; is_edge = v.is_in; is_named = v.is; is_pole = p }
 
     of_pole : (name : EdgeName) → HasPole o s r no_lines e sorted name → In name names

@@ -15,9 +15,10 @@ use Rattle.om_model.proofs.Counting.{length-upto}
 use Rattle.om_modelfile.specs.ModelOf.{rows_read}
 use Rattle.om_top.specs.Calls.{CheckMayCall, EvalMayCall, LoadMayCall, answer_calls, evaluation_calls, file_calls, legs_calls, numbers_calls, search_calls, value_calls}
 use Rattle.om_top.specs.Causes.{AreEvaluated}
-use Rattle.om_top.specs.Loads.{HoldsModel, SaysProcess, most_legs}
+use Rattle.om_top.specs.Loads.{HoldsModel, SaysProcess}
 use Rattle.om_top.specs.Outside.{Side, Holds}
 use Rattle.om_top.specs.Shapes.{ListsDiagrams, shape_of}
+use Rattle.om_top.specs.declared.limits.TheConstants.{MOST_EVALUATED_LEGS}
 use Rattle.om_top.specs.declared.diagrams.Diagram.{Diagram}
 use Rattle.om_top.specs.declared.diagrams.Diagrams.{Diagrams}
 use Rattle.om_top.proofs.CallLemmas.{sum_by-map, sum_by-some}
@@ -79,7 +80,7 @@ module _ (m : Model) (p : Process) (ts : List Tree) where
     answered_calls cost before x y now a b c = three_parts (numbers_calls m) (legs_calls (length p.legs)) (answer_calls (length d.legs) d.list) (answer_calls (length p.legs) shapes) cost before x y now a b c answer_at_most
 
 -- a process of the file was evaluated
-module _ {E : Type 0} (o : Ops E) (file : Side) (text : List ℕ) (m : Model) (p : Process) (holds : HoldsModel o file m) (scalars : HasColourlessScalars m) (says : SaysProcess m text p) (few : length p.legs ≤ most_legs) where
+module _ {E : Type 0} (o : Ops E) (file : Side) (text : List ℕ) (m : Model) (p : Process) (holds : HoldsModel o file m) (scalars : HasColourlessScalars m) (says : SaysProcess m text p) (few : length p.legs ≤ MOST_EVALUATED_LEGS) where
   pub eval_calls : (n cost before x now : ℕ) → LoadMayCall file (Ok m) n → x ≤ before + n * cost
       → ((ts : List Tree) → AreDiagrams (scattering_of m p) ts → now ≤ x + evaluation_calls m p ts * cost) → (k : ℕ) × EvalMayCall o file text k × (now ≤ before + k * cost)
   eval_calls n cost before x now e h each =

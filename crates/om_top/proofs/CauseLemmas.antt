@@ -13,10 +13,11 @@ use Rattle.om_top.specs.Command.{Command, check, eval}
 use Rattle.om_top.specs.Eval.{Evaluates, EvaluatesBy, IsNoEvent}
 use Rattle.om_top.specs.EvalRan.{WithScalars, WithProcess}
 use Rattle.om_top.specs.EventText.{IsEvent}
-use Rattle.om_top.specs.Loads.{HoldsModel, IsModelFile, SaysFault, SaysProcess, most_legs}
+use Rattle.om_top.specs.Loads.{HoldsModel, IsModelFile, SaysFault, SaysProcess}
 use Rattle.om_top.specs.Message.{status_of}
 use Rattle.om_top.specs.Outside.{Outside, Side, Failed, IsUntouched}
 use Rattle.om_top.specs.Ran.{Ran}
+use Rattle.om_top.specs.declared.limits.TheConstants.{MOST_EVALUATED_LEGS}
 use Rattle.om_top.specs.declared.ending.Ending.{Ending}
 use Rattle.om_top.specs.declared.ending.Ending.TheVariants.{Done, Usage, ModelTooLong, ModelFault, ModelNotBuilt, ProcessFault, ProcessNotBuilt, EventsNotBuilt, FileFault, InputFault, OutFault, NoMemory}
 use Rattle.om_top.proofs.Accepted.{evaluated, holds_file, one_process, told_file, told_long, with_model, with_scalars}
@@ -77,7 +78,7 @@ module _ {E : Type 0} (o : Ops E) (show : E → List ℕ) where
   model_cause (eval name text) outside e file ran told nf nm = model_of_eval name text outside e file ran told nf nm
 
 -- a text of a process that is evaluated is not refused
-process_taken : (m : Model) (text : List ℕ) (p : Process) → SaysProcess m text p → length p.legs ≤ most_legs → RefusesProcess m text → ⊥
+process_taken : (m : Model) (text : List ℕ) (p : Process) → SaysProcess m text p → length p.legs ≤ MOST_EVALUATED_LEGS → RefusesProcess m text → ⊥
 process_taken m text p says few refused =
     elim refused [
       | inl (fault, other) ↦ cc

@@ -12,6 +12,7 @@ pub mod Places
 pub mod Given
 pub mod NamedEdges
 pub mod LinesOfScalars
+pub mod AskedWords
 pub mod ScalarModels
 pub mod EdgeSize
 pub mod Evaluations

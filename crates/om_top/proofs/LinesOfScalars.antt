@@ -8,14 +8,14 @@ use Rattle.om_colour.specs.declared.Colour.TheVariants.{One}
 use Rattle.om_colour.specs.declared.Choice.{Choice}
 use Rattle.om_colour.specs.Choices.{goes_to}
 use Rattle.om_colour.specs.Follow.{end_of, follow}
-use Rattle.om_colour.specs.Lines.{Side, with_slot}
+use Rattle.om_colour.specs.Lines.{Side, anti_colour, with_slot}
 use Rattle.om_colour.specs.Lines.Side.{leg, vertex}
 use Rattle.om_colour.specs.Partials.{each_leg, first_at_slots}
 use Rattle.om_model.specs.ColourLines.{Colours, around, beyond, flow_at, hole, side, sides, there}
 use Rattle.om_model.specs.FermionLines.{Kinds, LineEnds, all_open, all_pairs, branch_lines, closed, is_odd_at, left_open, lines, lines_at, meet, no_line, settle}
 use Rattle.om_model.specs.Inversions.{odd, flatten}
 use Rattle.om_model.specs.Lines.{Lines}
-use Rattle.om_model.specs.Model.{anti_colour, colour_of, particle_of, scattering_of, spin_of, spin_of_field}
+use Rattle.om_model.specs.Model.{colour_of, particle_of, scattering_of, spin_of, spin_of_field}
 use Rattle.om_model.specs.ModelLines.{colours_of, is_dirac, kinds_of, lines_by, lines_of}
 use Rattle.om_model.specs.Opened.{Opened, opened_at_top}
 use Rattle.om_model.specs.Parts.{Part, least, put, sort, up}

@@ -2,6 +2,7 @@
 use Rattle.std.proofs.Common.{◌≡◌, ℕ, zero, suc, ◌-◌, ◌<◌, ◌≤◌, List, [], ◌∷◌, map, flat_map, length, Bool, true, false, cond, ◌&&◌, eqb, ltb, ◌↔◌, inl, inr, ⊎_elim, refl, ap, ap₂, sym, subst, ◌∙◌, arith, true≢false}
 use Rattle.std.proofs.lemmas.Bool.Decides.{nat_tests}
 use Rattle.om_ring.specs.Members.{In, Different}
+use Rattle.om_ring.proofs.Members.{different_filter, different_map, of_map}
 use Rattle.om_model.specs.Theory.{Scattering}
 use Rattle.om_model.specs.Tree.{Tree, Branches, legs, legs_all, count}
 use Rattle.om_model.specs.Tree.Tree.{leaf, join}
@@ -12,7 +13,7 @@ use Rattle.om_model.proofs.Counting.{both, same_times, length-upto}
 use Rattle.om_top.specs.declared.interactions.Interaction.{Interaction}
 use Rattle.om_top.specs.Choices.{below, orders_of}
 use Rattle.om_top.specs.TreeLists.{branches_over, leaves_over, interactions_at, interactions_of, interactions, is_few, joins_with, joins_at, joins_over, trees_over, hanging_list, has_edges, diagram_list, AreAll}
-use Rattle.om_top.proofs.ListLemmas.{of_flat_map, of_map, different_append, different_map, different_flat_map, different_one, in_cond, different_cond, different_filter}
+use Rattle.om_top.proofs.ListLemmas.{of_flat_map, different_append, different_flat_map, different_one, in_cond, different_cond}
 use Rattle.om_top.proofs.Numbers.{Same, same_in, same_length, same_numbers_of, IsRising, rising_upto}
 use Rattle.om_top.proofs.OrderLemmas.{in_below, below_differ, in_orders_of, orders_differ}
 use Rattle.om_top.proofs.FitLemmas.{FitsAt, of_fits, to_fits, length-fields_of, count_le}
@@ -33,7 +34,7 @@ module _ (s : Scattering) where
   of_interactions i h =
       let w = of_flat_map (interactions_of s.theory) i (below s.theory.vertices) h in
       let u = of_flat_map (interactions_at s.theory w.source) i (below (s.theory.choices w.source)) w.gives in
-      let m = of_map (at w.source u.source) i (orders_of (s.theory.slots w.source)) u.gives in
+      let m = of_map (at w.source u.source) (orders_of (s.theory.slots w.source)) i u.gives in
       let P : Interaction → Type 0 = λ j. IsInteraction j.vertex j.choice j.fields in
       let g : IsInteraction w.source u.source m.source = record { vertex = (in_below w.source s.theory.vertices).0 w.is_in; choice = (in_below u.source (s.theory.choices w.source)).0 u.is_in; slots = (in_orders_of m.source (s.theory.slots w.source)).0 m.is_in } in
       subst P (sym m.is) g
@@ -62,8 +63,8 @@ module _ (s : Scattering) where
     where
       met : (v w c d : ℕ) (i : Interaction) → In i (map (at v c) (orders_of (s.theory.slots v))) → In i (map (at w d) (orders_of (s.theory.slots w))) → (v ≡ w) × (c ≡ d)
       met v w c d i p q =
-          let a = of_map (at v c) i (orders_of (s.theory.slots v)) p in
-          let b = of_map (at w d) i (orders_of (s.theory.slots w)) q in
+          let a = of_map (at v c) (orders_of (s.theory.slots v)) i p in
+          let b = of_map (at w d) (orders_of (s.theory.slots w)) i q in
           let e = same_at v w c d a.source b.source (sym a.is ∙ b.is) in
           (e.0, e.1)
 
@@ -108,7 +109,7 @@ module _ (s : Scattering) where
   topped trees ks f v c (u ∷ gs) t h =
       let a = in_cond (eqb u (s.theory.anti f) && is_few (length gs)) t (map (join f v c) (branches_over trees gs ks)) h in
       let tests = both (eqb u (s.theory.anti f)) (is_few (length gs)) a.0 in
-      let m = of_map (join f v c) t (branches_over trees gs ks) a.1 in
+      let m = of_map (join f v c) (branches_over trees gs ks) t a.1 in
       let e : u ≡ s.theory.anti f = let x = tests.0 in grind (arith, nat_tests) in
       record { rest = gs; fields = ap (λ x. x ∷ gs) e; few = tests.1; branches = m.source; is = m.is; is_in = m.is_in }
 

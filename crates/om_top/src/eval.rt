@@ -1,5 +1,5 @@
 //! `eval` answers an event.
-ghost use Rattle.std.specs.Prelude.{◌≡◌, ℕ, ◌+◌, ◌*◌, ◌<◌, ◌≤◌, ◌^◌, All, length, List};
+ghost use Rattle.std.specs.Prelude.{◌≡◌, ℕ, ◌+◌, ◌*◌, ◌<◌, ◌≤◌, All, length, List};
 ghost use Rattle.om_model.specs.Diagrams.{AreDiagrams};
 ghost use Rattle.om_model.specs.Model.{scattering_of};
 ghost use Rattle.om_model.specs.Rules.{IsAccepted};
@@ -10,6 +10,7 @@ ghost use Rattle.om_top.specs.AnswerText.{answer_text, IsShort};
 ghost use Rattle.om_top.specs.Calls.{EvalMayCall, evaluation_calls, legs_calls};
 ghost use Rattle.om_top.specs.Eval.{EvaluatesProcess};
 ghost use Rattle.om_top.specs.EvalRan.{EvalRan};
+ghost use Rattle.om_top.specs.declared.limits.TheConstants.{MOST_EVALUATED_LEGS, WORD_LIMIT};
 ghost use Rattle.om_top.specs.Incoming.{HasPlaces};
 ghost use Rattle.om_top.specs.Outside.{side};
 ghost use Rattle.om_top.specs.Stages.{ReadsInput, Writes};
@@ -42,7 +43,7 @@ pub(crate) fn eval<R: Ring<Mark = L>, F: Folder, S: Source, O: Sink, L>(
     out: &mut O,
     steps: &mut Steps<L>,
 ) -> Ending
-    requires { length process.now < 2 ^ 31 }
+    requires { length process.now < WORD_LIMIT }
     ensures ran { let file = side (λ f. F.file f name.now) (λ f. F.faults f name.now) files.old files.new in
         let input = side S.left S.faults input.old input.new in
         let out = side O.written O.faults out.old out.new in
@@ -75,7 +76,7 @@ pub(crate) fn eval_process<R: Ring<Mark = L>, S: Source, O: Sink, L>(
     out: &mut O,
     steps: &mut Steps<L>,
 ) -> Ending
-    requires few { length process.now.legs ≤ 5 }
+    requires few { length process.now.legs ≤ MOST_EVALUATED_LEGS }
     requires accepted { IsAccepted (R.ops ring.now) model.now }
     requires scalars { HasColourlessScalars model.now }
     ensures ran { EvaluatesProcess (R.ops ring.now) (R.text ring.now) model.now process.now (side S.left S.faults input.old input.new) (side O.written O.faults out.old out.new) result }
@@ -103,7 +104,7 @@ fn read_input<R: Ring<Mark = L>, S: Source, L>(
     event: &mut [Incoming<R::E>],
     steps: &mut Steps<L>,
 ) -> Result<(), Ending>
-    requires few { length event.old ≤ 5 }
+    requires few { length event.old ≤ MOST_EVALUATED_LEGS }
     requires places { All HasPlaces event.old }
     ensures legs { ReadsInput (R.ops ring.now) (length event.old) (side S.left S.faults input.old input.new) event.new result }
     ensures calls { steps.new ≤ steps.old + legs_calls (length event.old) * R.cost ring.now }

@@ -8,6 +8,7 @@ ghost use Rattle.om_top.specs.Loads.{LoadsModel, ReadsModel};
 ghost use Rattle.om_top.specs.Outside.{side};
 
 use crate::ending::Ending;
+use crate::limits::MOST_FILE_BYTES;
 use om_colour::Colour;
 use om_io::{FileFault, Folder, read_file};
 use om_lorentz::Spin;
@@ -15,9 +16,6 @@ use om_model::{Model, Particle};
 use om_modelfile::{ModelFault, read_model};
 use om_ring::{Ring, Steps};
 use std::alloc::Global;
-
-/// No model file has more bytes.
-const MOST_BYTES: u64 = 1_048_576;
 
 /// The model of the file of this name. Where there is none, the answer is how the run ends.
 pub(crate) fn load_model<R: Ring<Mark = L>, F: Folder, L>(
@@ -31,7 +29,7 @@ pub(crate) fn load_model<R: Ring<Mark = L>, F: Folder, L>(
     ensures calls { let file = side (λ f. F.file f name.now) (λ f. F.faults f name.now) files.old files.new in
         (n : ℕ) × LoadMayCall file result n × (steps.new ≤ steps.old + n * R.cost ring.now) }
 {
-    match read_file(alloc, files, name, MOST_BYTES) {
+    match read_file(alloc, files, name, MOST_FILE_BYTES) {
         Ok(bytes) => model_of(alloc, ring, &bytes, steps),
         Err(FileFault::TooLong) => Err(Ending::ModelTooLong),
         Err(FileFault::Failed) => Err(Ending::FileFault),

@@ -2,6 +2,7 @@
 ghost use Rattle.std.specs.Prelude.{◌≡◌, ◌≤◌, filter, IfOk};
 ghost use Rattle.om_legs.specs.Legs.{holds as holds_leg};
 ghost use Rattle.om_model.specs.Diagrams.{any_in, same_legs};
+ghost use Rattle.om_model.specs.declared.limits.TheConstants.{MOST_LEGS};
 ghost use Rattle.om_model.specs.Parts.{others};
 ghost use Rattle.om_top.specs.Choices.{stands_in};
 ghost use Rattle.om_top.specs.NamedEdges.{has_all, parts};
@@ -15,7 +16,7 @@ use std::alloc::Global;
 
 /// Whether a set holds, of the legs 1 to `size`, those that are among some legs and no other.
 fn holds_these(size: usize, set: LegSet, legs: &[u8]) -> bool
-    requires { size ≤ 12 }
+    requires { size ≤ MOST_LEGS }
     ensures { result ≡ same_legs size (holds_leg set) (λ k. stands_in k legs.now) }
 {
     for k in 0..size {
@@ -29,7 +30,7 @@ fn holds_these(size: usize, set: LegSet, legs: &[u8]) -> bool
 
 /// Whether a set holds, of the legs 1 to `size`, those that aren't among some legs and no other.
 fn holds_the_others(size: usize, set: LegSet, legs: &[u8]) -> bool
-    requires { size ≤ 12 }
+    requires { size ≤ MOST_LEGS }
     ensures { result ≡ same_legs size (holds_leg set) (others size (λ k. stands_in k legs.now)) }
 {
     for k in 0..size {
@@ -43,7 +44,7 @@ fn holds_the_others(size: usize, set: LegSet, legs: &[u8]) -> bool
 
 /// Whether an edge has the legs of the set on one side.
 fn parts(size: usize, set: LegSet, edge: &EdgeName) -> bool
-    requires { size ≤ 12 }
+    requires { size ≤ MOST_LEGS }
     ensures { result ≡ parts size (holds_leg set) edge.now }
 {
     holds_these(size, set, edge.legs()) || holds_the_others(size, set, edge.legs())
@@ -51,7 +52,7 @@ fn parts(size: usize, set: LegSet, edge: &EdgeName) -> bool
 
 /// Whether one of some edges has the legs of the set on one side.
 fn some_parts(size: usize, set: LegSet, edges: &[EdgeName]) -> bool
-    requires { size ≤ 12 }
+    requires { size ≤ MOST_LEGS }
     ensures { result ≡ any_in (parts size (holds_leg set)) edges.now }
 {
     for edge in edges {
@@ -64,7 +65,7 @@ fn some_parts(size: usize, set: LegSet, edges: &[EdgeName]) -> bool
 
 /// Whether a diagram has the edge that each of some sets names.
 fn has_all(size: usize, sets: &[LegSet], diagram: &Diagram) -> bool
-    requires { size ≤ 12 }
+    requires { size ≤ MOST_LEGS }
     ensures { result ≡ has_all size sets.now diagram.now }
 {
     for set in sets {
@@ -82,7 +83,7 @@ pub(crate) fn with_edges(
     sets: &[LegSet],
     diagrams: &[Diagram],
 ) -> Result<List<Diagram>, NoMemory>
-    requires { size ≤ 12 }
+    requires { size ≤ MOST_LEGS }
     ensures { IfOk result (λ l. l ≡ filter (has_all size sets.now) diagrams.now) }
 {
     let mut found = List::new(alloc);

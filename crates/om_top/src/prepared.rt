@@ -2,6 +2,7 @@
 ghost use Rattle.std.specs.Prelude.{◌≡◌, ◌+◌, ◌*◌, ◌≤◌, IfOk, All, length, map, vec_len, replicate};
 ghost use Rattle.std.specs.List.{sum_by};
 ghost use Rattle.om_model.specs.ModelTable.{number};
+ghost use Rattle.om_model.specs.declared.limits.TheConstants.{MOST_LEGS};
 ghost use Rattle.om_top.specs.Calls.{numbers_calls, particle_calls, product_calls, vertex_calls};
 ghost use Rattle.om_top.specs.Incoming.{HasPlaces};
 ghost use Rattle.om_top.specs.Numbers.{HasParticleRows, HasRows, first_factor, with_particles};
@@ -30,7 +31,7 @@ pub(crate) fn prepare<R: Ring<Mark = L>, L>(
     process: &Process,
     steps: &mut Steps<L>,
 ) -> Result<Prepared<R::E>, NoMemory>
-    requires legs { length process.now.legs ≤ 12 }
+    requires legs { length process.now.legs ≤ MOST_LEGS }
     requires slots { HasThreeOrFourSlots model.now }
     ensures prepared { IfOk result (λ x. IsPrepared (R.ops ring.now) model.now process.now x) }
     ensures calls { steps.new ≤ steps.old + numbers_calls model.now * R.cost ring.now }
