@@ -109,6 +109,7 @@ none_meet qs h = ap₂ settle (none_pairs qs h) (none_open qs h) ∙ settled
 module _ (s : Scattering) where
   mutual
     unfolding lines
+
     none_in : (t : Tree) → lines s no_kinds t ≡ no_line
     none_in (leaf k) = refl
     none_in (join f v c bs) =
@@ -165,6 +166,7 @@ module _ (s : Scattering) (choice : ℕ → ℕ → Choice) where
 
   mutual
     unfolding side
+
     dark_side : (t : Tree) → IsDark (side s plain t)
     dark_side (leaf k) = dark_leg k
     dark_side (join f v c bs) =

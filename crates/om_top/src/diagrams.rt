@@ -1,7 +1,7 @@
 //! The list of all diagrams.
 ghost use Rattle.std.specs.Prelude.{◌≡◌, ◌≤◌, [], ◌∷◌, ◌++◌, map, length, OnOk, IfOk};
 ghost use Rattle.om_model.specs.Model.{scattering_of};
-ghost use Rattle.om_model.specs.declared.limits.TheConstants.{MOST_LEGS};
+ghost use Rattle.om_legs.specs.declared.leg_set.TheConstants.{MOST_LEGS};
 ghost use Rattle.om_top.specs.Shapes.{joined, joined_pairs, ListsDiagrams};
 ghost use Rattle.om_top.specs.Slots.{HasThreeOrFourSlots};
 

@@ -11,7 +11,7 @@ use crate::diagrams::{Diagram, join_pairs};
 use crate::edge_name::EdgeName;
 use crate::interactions::Interaction;
 use crate::lists::with_first;
-use om_model::{Model, Process};
+use om_model::{Model, Process, anti_field};
 use om_ring::{List, NoMemory};
 use std::alloc::Global;
 
@@ -82,16 +82,7 @@ impl Listing<'_> {
     fn anti(&self, field: u16) -> u16
         ensures { result ≡ (scattering_of self.now.model.now self.now.process.now).theory.anti field }
     {
-        let Some(particle) = self.model.particles.as_slice().get(field as usize / 2) else {
-            return field;
-        };
-        if particle.name.bytes() == particle.anti.bytes() {
-            field
-        } else if field % 2 == 0 {
-            field + 1
-        } else {
-            field - 1
-        }
+        anti_field(self.model.particles.as_slice(), field)
     }
 
     /// The name of the edge above a tree over these legs, from which this field goes upwards.

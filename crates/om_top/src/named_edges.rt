@@ -2,7 +2,7 @@
 ghost use Rattle.std.specs.Prelude.{◌≡◌, ◌≤◌, filter, IfOk};
 ghost use Rattle.om_legs.specs.Legs.{holds as holds_leg};
 ghost use Rattle.om_model.specs.Diagrams.{any_in, same_legs};
-ghost use Rattle.om_model.specs.declared.limits.TheConstants.{MOST_LEGS};
+ghost use Rattle.om_legs.specs.declared.leg_set.TheConstants.{MOST_LEGS};
 ghost use Rattle.om_model.specs.Parts.{others};
 ghost use Rattle.om_top.specs.Choices.{stands_in};
 ghost use Rattle.om_top.specs.NamedEdges.{has_all, parts};

@@ -2,7 +2,7 @@
 ghost use Rattle.std.specs.Prelude.{◌≡◌, ◌+◌, ◌*◌, ◌≤◌, IfOk, All, length, map, vec_len, replicate};
 ghost use Rattle.std.specs.List.{sum_by};
 ghost use Rattle.om_model.specs.ModelTable.{number};
-ghost use Rattle.om_model.specs.declared.limits.TheConstants.{MOST_LEGS};
+ghost use Rattle.om_legs.specs.declared.leg_set.TheConstants.{MOST_LEGS};
 ghost use Rattle.om_top.specs.Calls.{numbers_calls, particle_calls, product_calls, vertex_calls};
 ghost use Rattle.om_top.specs.Incoming.{HasPlaces};
 ghost use Rattle.om_top.specs.Numbers.{HasParticleRows, HasRows, first_factor, with_particles};
