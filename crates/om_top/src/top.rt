@@ -23,10 +23,11 @@ use std::alloc::Global;
 /// `eval MODEL PROCESS` reads the file MODEL, then the events of the input, and writes their answers to `out`. All memory is
 /// taken before the first byte of the input is asked for. Each sum, product and inverse in `ring` is counted on `steps`.
 ///
-/// The contract names an ending. It has the status and the line on `err`, which is missing only where `err` failed; what
+/// The first clause names an ending. It has the status and the line on `err`, which is missing only where `err` failed; what
 /// stands outside then is what `Ran` says of it. So a status comes exactly where no other ending fits, but for want of
 /// memory, which may come at any time before anything is read from the input or written to `out`, and for failures, which
-/// come only where the object's own count of faults rose.
+/// come only where the object's own count of faults rose. The second clause bounds the calls of the ring by the file of the
+/// model and, for `eval`, by the model, the process and its diagrams.
 pub fn run<R: Ring<Mark = L>, F: Folder, S: Source, O: Sink, E: Sink, L>(
     alloc: Global,
     ring: &R,
