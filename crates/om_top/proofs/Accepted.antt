@@ -2,17 +2,16 @@
 use Rattle.std.proofs.Common.{◌≡◌, ℕ, ◌≤◌, ◌<◌, List, length, Option, Some, None, IfSome, refl, ap, sym, ◌∙◌, subst, arith, inl, inr}
 use Rattle.std.specs.Prelude.{◌⊎◌}
 use Rattle.om_ring.specs.Ops.{Ops}
-use Rattle.om_model.specs.Model.{scattering_of}
 use Rattle.om_model.specs.ScalarRules.{HasColourlessScalars}
 use Rattle.om_model.specs.declared.model.Model.{Model}
-use Rattle.om_model.specs.declared.process.Leg.{Leg}
 use Rattle.om_model.specs.declared.process.Process.{Process}
 use Rattle.om_top.specs.Causes.{AreEvaluated}
 use Rattle.om_top.specs.Eval.{Evaluates}
 use Rattle.om_top.specs.EvalRan.{EvalRan, WithScalars, WithProcess}
-use Rattle.om_top.specs.Loads.{HoldsModel, IsModelFile, SaysProcess, most_bytes, most_legs}
+use Rattle.om_top.specs.Loads.{HoldsModel, IsModelFile, SaysProcess}
 use Rattle.om_top.specs.Outside.{Side, Failed, IsUntouched}
 use Rattle.om_top.specs.WithModel.{WithModel}
+use Rattle.om_top.specs.declared.limits.TheConstants.{MOST_EVALUATED_LEGS, MOST_FILE_BYTES}
 use Rattle.om_top.specs.declared.ending.Ending.{Ending}
 use Rattle.om_top.specs.declared.ending.Ending.TheVariants.{Usage, ModelTooLong, ModelFault, ModelNotBuilt, ProcessFault, ProcessNotBuilt, FileFault, NoMemory}
 use Rattle.om_top.proofs.Files.{one_model, no_fault}
@@ -22,15 +21,13 @@ pub told_file : (told : Option (List ℕ)) (file bytes : List ℕ) → told ≡ 
 told_file None file bytes e h = cc
 told_file (Some b) file bytes e h = let k : b ≡ file = cc in sym h ∙ k
 
-pub told_long : (told : Option (List ℕ)) (file : List ℕ) → told ≡ Some file → IfSome told (λ b. most_bytes < length b) → most_bytes < length file
+pub told_long : (told : Option (List ℕ)) (file : List ℕ) → told ≡ Some file → IfSome told (λ b. MOST_FILE_BYTES < length b) → MOST_FILE_BYTES < length file
 told_long None file e h = cc
-told_long (Some b) file e h = let k : b ≡ file = cc in subst (λ (t : List ℕ). most_bytes < length t) k h
+told_long (Some b) file e h = let k : b ≡ file = cc in subst (λ (t : List ℕ). MOST_FILE_BYTES < length t) k h
 
 -- a text is that of one process
 pub one_process : (m : Model) (text : List ℕ) (a b : Process) → SaysProcess m text a → SaysProcess m text b → a ≡ b
-one_process m text a b p q =
-    let legs : a.legs ≡ b.legs = cc in
-    ap (λ (legs : List Leg). let x : Process = record { legs = legs } in x) legs
+one_process m text a b p q = cc
 
 module _ {E : Type 0} (o : Ops E) (file : Side) (bytes : List ℕ) (told : file.before ≡ Some bytes) where
   -- the model that the file holds is that of its bytes
@@ -38,7 +35,7 @@ module _ {E : Type 0} (o : Ops E) (file : Side) (bytes : List ℕ) (told : file.
   holds_file m (held, holds, is_file) = subst (λ (t : List ℕ). IsModelFile o t m) (told_file file.before bytes held told holds) is_file
 
   module _ (m : Model) (accepted : IsModelFile o bytes m) where
-    short_file : IfSome file.before (λ b. most_bytes < length b) → ⊥
+    short_file : IfSome file.before (λ b. MOST_FILE_BYTES < length b) → ⊥
     short_file long = let many = told_long file.before bytes told long in let few = accepted.within in omega arith
 
     pub same_model : (n : Model) → HoldsModel o file n → n ≡ m
@@ -58,7 +55,7 @@ pub with_scalars : (quiet : Type 0) (rest : Model → Ending → Type 0) (m : Mo
 with_scalars quiet rest m ModelNotBuilt scalars (other, q) = absurd (other scalars)
 with_scalars quiet rest m ending scalars (has, h) = h
 
-pub with_process : (text : List ℕ) (quiet : Type 0) (rest : Model → Process → Ending → Type 0) (m : Model) (p : Process) (ending : Ending) → SaysProcess m text p → length p.legs ≤ most_legs
+pub with_process : (text : List ℕ) (quiet : Type 0) (rest : Model → Process → Ending → Type 0) (m : Model) (p : Process) (ending : Ending) → SaysProcess m text p → length p.legs ≤ MOST_EVALUATED_LEGS
     → WithProcess text quiet rest m ending → rest m p ending
 with_process text quiet rest m p (ProcessFault fault) says few (other, q) = cc
 with_process text quiet rest m p ProcessNotBuilt says few (r, reads, many, q) = absurd (omega (arith, ap (λ (x : Process). length x.legs) (one_process m text r p reads says)))
@@ -66,10 +63,10 @@ with_process text quiet rest m p ending says few ran = subst (λ (x : Process). 
 
 -- with a model and a process that are evaluated, a run that didn't want memory evaluated them
 pub evaluated : {E : Type 0} (o : Ops E) (show : E → List ℕ) (file input out : Side) (bytes text : List ℕ) (m : Model) (p : Process) (ending : Ending) → file.before ≡ Some bytes → ¬ Failed file
-    → AreEvaluated o bytes text m p → EvalRan o show file text input out ending → (ending ≡ NoMemory) ⊎ Evaluates o show m (scattering_of m p) input out ending
+    → AreEvaluated o bytes text m p → EvalRan o show file text input out ending → (ending ≡ NoMemory) ⊎ Evaluates o show m p input out ending
 evaluated o show file input out bytes text m p ending told nf are ran =
     let quiet = IsUntouched input × IsUntouched out in
-    let rest : Model → Process → Ending → Type 0 = λ m p. Evaluates o show m (scattering_of m p) input out in
+    let rest : Model → Process → Ending → Type 0 = λ m p. Evaluates o show m p input out in
     elim (with_model o file bytes told m are.model quiet (WithScalars quiet (WithProcess text quiet rest)) ending nf ran) [
       | inl e ↦ inl e
       | inr h ↦ inr (with_process text quiet rest m p ending are.process are.few (with_scalars quiet (WithProcess text quiet rest) m ending are.scalars h))

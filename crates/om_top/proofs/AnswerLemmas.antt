@@ -5,28 +5,31 @@ use Rattle.om_ring.specs.Ops.{Ops, Laws}
 use Rattle.om_ring.specs.Sums.{sum_over}
 use Rattle.om_ring.proofs.RingLemmas.{times_left_comm}
 use Rattle.om_ring.proofs.SumLemmas.{sum_over-same, sum_over-map, times-sum_over, sum_over-same_members}
+use Rattle.om_ring.proofs.Members.{of_map}
 use Rattle.om_model.specs.Order.{BeforeAll, Rising, rising_of, insert, numbers_lt}
 use Rattle.om_model.specs.Theory.{Scattering}
 use Rattle.om_model.specs.Tree.{Tree, Branches, legs_all, tree_lt}
 use Rattle.om_model.specs.Tree.Tree.{leaf, join}
-use Rattle.om_model.specs.Diagram.{upto, times_in, is_diagram, AreDiagrams}
+use Rattle.om_model.specs.Diagram.{upto, times_in, is_diagram}
+use Rattle.om_model.specs.Diagrams.{AreDiagrams, counts}
 use Rattle.om_model.specs.Event.{Event, Balances}
 use Rattle.om_model.specs.FeynmanRules.{FeynmanRules}
-use Rattle.om_model.specs.Lines.{no_lines}
+use Rattle.om_top.specs.NoLines.{no_flow, no_lines}
 use Rattle.om_model.specs.Propagator.{EdgeName, inner_edges, edge_name, name_lt, IsPole}
 use Rattle.om_model.specs.Value.{value}
 use Rattle.om_model.specs.Answer.{HasPole, IsAnswer, values_of, value_of_flow}
 use Rattle.om_model.specs.Answer.Answer.{unbalanced, pole, values}
 use Rattle.om_model.proofs.Membership.{in_map, in_flat_map}
-use Rattle.om_model.proofs.Counting.{times_in-append, length-upto}
+use Rattle.om_model.proofs.Counting.{both, times_in-append, length-upto}
 use Rattle.om_model.proofs.Rising.{rising_of_rising, in_rising_of}
 use Rattle.om_model.proofs.TreeOrder.{tree_order}
 use Rattle.om_top.specs.declared.diagrams.Diagram.{Diagram}
 use Rattle.om_top.specs.declared.diagrams.Diagrams.{Diagrams}
 use Rattle.om_top.specs.declared.event.Table.{Table as Numbers}
 use Rattle.om_top.specs.Shapes.{shape_of, ListsDiagrams}
+use Rattle.om_top.specs.TreeLists.{has_edges}
 use Rattle.om_top.specs.Evaluation.{rules_of, wave_product, shape_value, shapes_value}
-use Rattle.om_top.proofs.ListLemmas.{of_map, of_flat_map, empty}
+use Rattle.om_top.proofs.ListLemmas.{of_flat_map, empty}
 use Rattle.om_top.proofs.Numbers.{Same, gather, gather_same}
 use Rattle.om_top.proofs.TreeListLemmas.{diagram_top, few_legs}
 use Rattle.om_top.proofs.ValueLemmas.{value_is}
@@ -41,10 +44,14 @@ rising_differ lt irreflexive [] r = tt
 rising_differ lt irreflexive (x ∷ xs) r = ((λ i. true≢false (sym (before_in lt x x xs r.0 i) ∙ irreflexive x)), rising_differ lt irreflexive xs r.1)
 
 -- a list of diagrams has one flow, unless it is empty
-one_flow : (u : Tree) (us : List Tree) → rising_of numbers_lt (map no_lines.flow (u ∷ us)) ≡ [] ∷ []
+one_flow : (u : Tree) (us : List Tree) → rising_of numbers_lt (map no_lines.flow (u ∷ us)) ≡ no_flow ∷ []
 unfolding rising_of insert numbers_lt
 one_flow u [] = refl
-one_flow u (w ∷ us) = ap (insert numbers_lt []) (one_flow w us)
+one_flow u (w ∷ us) = ap (insert numbers_lt no_flow) (one_flow w us)
+
+counted_is : (s : Scattering) (t : Tree) → counts s t ≡ true → is_diagram s t ≡ true
+unfolding counts
+counted_is s t h = (both (is_diagram s t) (has_edges s t) h).0
 
 all_pass : {A : Type 0} (xs : List A) → filter (λ x. true) xs ≡ xs
 all_pass [] = refl
@@ -58,12 +65,12 @@ module _ {E : Type 0} (o : Ops E) (l : Laws o) (s : Scattering) (r : FeynmanRule
   unfolding rising_of
   no_values = refl
 
-  one_value : (ts : List Tree) → (ts ≡ [] → ⊥) → values_of o s r no_lines e ts ≡ ([], sum_over o ts tree_value) ∷ []
+  one_value : (ts : List Tree) → (ts ≡ [] → ⊥) → values_of o s r no_lines e ts ≡ (no_flow, sum_over o ts tree_value) ∷ []
   unfolding numbers_lt
   one_value [] n = absurd (n refl)
   one_value (u ∷ us) n =
       ap (map (λ flow. (flow, value_of_flow o s r no_lines e (u ∷ us) flow))) (one_flow u us)
-      ∙ ap (λ (ts : List Tree). let p : List ℕ × E = ([], sum_over o ts tree_value) in p ∷ []) (all_pass (u ∷ us))
+      ∙ ap (λ (ts : List Tree). let p : List ℕ × E = (no_flow, sum_over o ts tree_value) in p ∷ []) (all_pass (u ∷ us))
 
 -- one number more
 with_last : (n : ℕ) (xs : List ℕ) → 0 < n → Same xs (upto (n - 1)) → Same (n ∷ xs) (upto n)
@@ -102,7 +109,7 @@ module _ (s : Scattering) (d : Diagrams) (h : ListsDiagrams s d) where
   sorted_differ : Different sorted
   sorted_differ = rising_differ tree_lt tree_order.irreflexive sorted (rising_of_rising tree_lt tree_order h.trees)
 
-  pub no_diagram : (d.list ≡ []) ↔ ((u : Tree) → is_diagram s u ≡ true → ⊥)
+  pub no_diagram : (d.list ≡ []) ↔ ((u : Tree) → counts s u ≡ true → ⊥)
   no_diagram = (
     (λ e u i. let P : List Tree → Type 0 = λ us. In u us in subst P (unmapped (shape_of s) h.trees (sym h.list ∙ e)) ((h.are_all.members u).1 i)),
     (λ n. h.list ∙ ap (map (shape_of s)) (empty h.trees (λ u i. n u ((h.are_all.members u).0 i)))),
@@ -138,9 +145,9 @@ module _ (s : Scattering) (d : Diagrams) (h : ListsDiagrams s d) where
     pole_of name i p =
         let w = of_flat_map (λ (x : Diagram). x.edges) name d.list i in
         let P : List Diagram → Type 0 = λ ds. In w.source ds in
-        let u = of_map (shape_of s) w.source h.trees (subst P h.list w.is_in) in
+        let u = of_map (shape_of s) h.trees w.source (subst P h.list w.is_in) in
         let Q : Diagram → Type 0 = λ x. In name x.edges in
-        let v = of_map (edge_name s) name (inner_edges u.source) (subst Q u.is w.gives) in
+        let v = of_map (edge_name s) (inner_edges u.source) name (subst Q u.is w.gives) in
         record { diagram = u.source; edge = v.source; is_diagram = (in_rising_of tree_lt tree_order u.source h.trees).0 u.is_in; is_edge = v.is_in; is_named = v.is; is_pole = p }
 
     of_pole : (name : EdgeName) → HasPole o s r no_lines e sorted name → In name names
@@ -173,14 +180,14 @@ module _ (s : Scattering) (d : Diagrams) (h : ListsDiagrams s d) where
     sum_is =
         let same : (z : Tree) → In z sorted ↔ In z h.trees = λ z. let a = in_rising_of tree_lt tree_order z h.trees in (a.1, a.0) in
         sum_over-same_members o l (tree_value o l s r e) sorted h.trees sorted_differ h.are_all.different ((λ z. (same z).0), (λ z. (same z).1))
-        ∙ sum_over-same o h.trees (tree_value o l s r e) (λ u. o.times (wave_product o e (upto s.size)) (shape_value o t e (shape_of s u))) (λ u i. value_of_tree u ((h.are_all.members u).0 i))
+        ∙ sum_over-same o h.trees (tree_value o l s r e) (λ u. o.times (wave_product o e (upto s.size)) (shape_value o t e (shape_of s u))) (λ u i. value_of_tree u (counted_is s u ((h.are_all.members u).0 i)))
         ∙ sym (times-sum_over o l (wave_product o e (upto s.size)) h.trees (λ u. shape_value o t e (shape_of s u)))
         ∙ ap (o.times (wave_product o e (upto s.size))) (sym (sum_over-map o (shape_of s) h.trees (shape_value o t e)) ∙ ap (λ ds. sum_over o ds (shape_value o t e)) (sym h.list))
         ∙ ap (λ ks. o.times (wave_product o e ks) (sum_over o d.list (shape_value o t e))) (sym h.legs)
 
-    pub values_are : Balances o e s.size → ((other : EdgeName) → In other names → IsPole o r e other → ⊥) → (d.list ≡ [] → ⊥) → IsAnswer o s r no_lines e (values (([], shapes_value o t e d.legs d.list) ∷ []))
+    pub values_are : Balances o e s.size → ((other : EdgeName) → In other names → IsPole o r e other → ⊥) → (d.list ≡ [] → ⊥) → IsAnswer o s r no_lines e (values ((no_flow, shapes_value o t e d.legs d.list) ∷ []))
     values_are b n some =
-        (sorted, sorted_are, (b, no_pole n, ap (λ x. let p : List ℕ × E = ([], x) in p ∷ []) (sym sum_is) ∙ sym (one_value o l s r e sorted (some_sorted some))))
+        (sorted, sorted_are, (b, no_pole n, ap (λ x. let p : List ℕ × E = (no_flow, x) in p ∷ []) (sym sum_is) ∙ sym (one_value o l s r e sorted (some_sorted some))))
 
     pub no_values_are : Balances o e s.size → d.list ≡ [] → IsAnswer o s r no_lines e (values [])
     no_values_are b none =

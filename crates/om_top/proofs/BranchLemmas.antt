@@ -2,6 +2,7 @@
 use Rattle.std.proofs.Common.{◌≡◌, ℕ, ◌+◌, ◌<◌, ◌≤◌, List, [], ◌∷◌, ◌++◌, map, length, filter, not, Bool, true, false, cond, ◌&&◌, eqb, inl, inr, refl, ap, ap₂, sym, subst, ◌∙◌, arith}
 use Rattle.std.proofs.lemmas.Bool.Decides.{nat_tests}
 use Rattle.om_ring.specs.Members.{In, Different}
+use Rattle.om_ring.proofs.Members.{different_map, of_map}
 use Rattle.om_model.specs.Theory.{Scattering}
 use Rattle.om_model.specs.Tree.{Tree, Branches, legs, legs_all}
 use Rattle.om_model.specs.Tree.Branches.{none, and}
@@ -11,7 +12,7 @@ use Rattle.om_model.proofs.Counting.{both, times_in-append, times_of_in}
 use Rattle.om_top.specs.declared.combinations.Split.{Split}
 use Rattle.om_top.specs.Choices.{stands_in, splits}
 use Rattle.om_top.specs.TreeLists.{pairs_of, branches_over}
-use Rattle.om_top.proofs.ListLemmas.{of_flat_map, of_map, different_map, different_flat_map, different_one}
+use Rattle.om_top.proofs.ListLemmas.{of_flat_map, different_flat_map, different_one}
 use Rattle.om_top.proofs.Numbers.{Same, same_in, same_length, IsRising, rising_once, rising_unique, least_le, times_in-filter}
 use Rattle.om_top.proofs.SplitLemmas.{SharesOut, in_part, in_others, shares_out, split_by, split_by_is_in, splits_differ}
 use Rattle.om_top.proofs.FitLemmas.{least_leg, count_le, length-fields_of, first_least, order_rest, ordered}
@@ -41,7 +42,7 @@ pub of_pairs : (ts : List Tree) (bss : List Branches) (cs : Branches) → In cs 
 unfolding pairs_of
 of_pairs ts bss cs h =
     let w = of_flat_map (λ bs. map (λ t. and t bs) ts) cs bss h in
-    let v = of_map (λ t. and t w.source) cs ts w.gives in
+    let v = of_map (λ t. and t w.source) ts cs w.gives in
     record { tree = v.source; rest = w.source; tree_in = v.is_in; rest_in = w.is_in; is = v.is }
 
 pub in_pairs : (ts : List Tree) (bss : List Branches) (t : Tree) (bs : Branches) → In t ts → In bs bss → In (and t bs) (pairs_of ts bss)
@@ -56,7 +57,7 @@ unfolding pairs_of
 pairs_differ ts bss d e =
     different_flat_map (λ bs. map (λ t. and t bs) ts) bss e
     (λ bs i. different_map (λ t. and t bs) ts (λ t u a b h. (same_branches t u bs bs h).0) d)
-    (λ bs cs z i j a b. let p = of_map (λ t. and t bs) z ts a in let q = of_map (λ t. and t cs) z ts b in (same_branches p.source q.source bs cs (sym p.is ∙ q.is)).1)
+    (λ bs cs z i j a b. let p = of_map (λ t. and t bs) ts z a in let q = of_map (λ t. and t cs) ts z b in (same_branches p.source q.source bs cs (sym p.is ∙ q.is)).1)
 
 -- by the first branch and the later ones
 spans_parts : (s : Scattering) (ks : List ℕ) (g : ℕ) (gs : List ℕ) (t : Tree) (bs : Branches) → Spans s ks (g ∷ gs) (and t bs) → (field_of s t ≡ g) × (fields_of s bs ≡ gs) × (fits s t ≡ true) × (fits_all s bs ≡ true)

@@ -2,7 +2,7 @@
 use Rattle.std.proofs.Common.{◌≡◌, ◌≢◌, ℕ, ◌≤◌, List, [], ◌∷◌, length, Some, None, refl, ap, sym, subst, arith, inl, inr}
 use Rattle.std.specs.Prelude.{◌↔◌}
 use Rattle.om_ring.specs.Ops.{Ops}
-use Rattle.om_model.specs.Diagram.{AreDiagrams}
+use Rattle.om_model.specs.Diagrams.{AreDiagrams}
 use Rattle.om_model.specs.Model.{scattering_of}
 use Rattle.om_model.specs.Theory.{Scattering}
 use Rattle.om_model.specs.Tree.{Tree}
@@ -13,10 +13,11 @@ use Rattle.om_top.specs.Command.{Command, check, eval}
 use Rattle.om_top.specs.Eval.{Evaluates, EvaluatesBy, IsNoEvent}
 use Rattle.om_top.specs.EvalRan.{WithScalars, WithProcess}
 use Rattle.om_top.specs.EventText.{IsEvent}
-use Rattle.om_top.specs.Loads.{HoldsModel, IsModelFile, SaysFault, SaysProcess, most_legs}
+use Rattle.om_top.specs.Loads.{HoldsModel, IsModelFile, SaysFault, SaysProcess}
 use Rattle.om_top.specs.Message.{status_of}
 use Rattle.om_top.specs.Outside.{Outside, Side, Failed, IsUntouched}
 use Rattle.om_top.specs.Ran.{Ran}
+use Rattle.om_top.specs.declared.limits.TheConstants.{MOST_EVALUATED_LEGS}
 use Rattle.om_top.specs.declared.ending.Ending.{Ending}
 use Rattle.om_top.specs.declared.ending.Ending.TheVariants.{Done, Usage, ModelTooLong, ModelFault, ModelNotBuilt, ProcessFault, ProcessNotBuilt, EventsNotBuilt, FileFault, InputFault, OutFault, NoMemory}
 use Rattle.om_top.proofs.Accepted.{evaluated, holds_file, one_process, told_file, told_long, with_model, with_scalars}
@@ -77,7 +78,7 @@ module _ {E : Type 0} (o : Ops E) (show : E → List ℕ) where
   model_cause (eval name text) outside e file ran told nf nm = model_of_eval name text outside e file ran told nf nm
 
 -- a text of a process that is evaluated is not refused
-process_taken : (m : Model) (text : List ℕ) (p : Process) → SaysProcess m text p → length p.legs ≤ most_legs → RefusesProcess m text → ⊥
+process_taken : (m : Model) (text : List ℕ) (p : Process) → SaysProcess m text p → length p.legs ≤ MOST_EVALUATED_LEGS → RefusesProcess m text → ⊥
 process_taken m text p says few refused =
     elim refused [
       | inl (fault, other) ↦ cc
@@ -93,7 +94,7 @@ module _ {E : Type 0} (o : Ops E) (show : E → List ℕ) where
   pub process_cause : ProcessCause o show
   process_cause outside e name text file m ran told nf nm is_file scalars =
       let quiet = IsUntouched outside.input × IsUntouched outside.out in
-      let rest : Model → Process → Ending → Type 0 = λ m p. Evaluates o show m (scattering_of m p) outside.input outside.out in
+      let rest : Model → Process → Ending → Type 0 = λ m p. Evaluates o show m p outside.input outside.out in
       elim (with_model o (outside.file name) file told m is_file quiet (WithScalars quiet (WithProcess text quiet rest)) e nf ran) [
         | inl none ↦ absurd (nm none)
         | inr h ↦ process_refused m text quiet rest e (with_scalars quiet (WithProcess text quiet rest) m e scalars h)
@@ -107,25 +108,25 @@ module _ {E : Type 0} (o : Ops E) (show : E → List ℕ) where
     first_diagram : (t : Tree) (ts : List Tree) → AreDiagrams s (t ∷ ts) → HasDiagram s
     first_diagram t ts are = (t, (are.members t).0 (inl refl))
 
-    failed_input : Evaluates o show m s outside.input outside.out InputFault → Failed outside.input × HasDiagram s
+    failed_input : Evaluates o show m p outside.input outside.out InputFault → Failed outside.input × HasDiagram s
     failed_input ([], are, h) = absurd h
     failed_input (t ∷ ts, are, (given, gave, (failed, quiet))) = (failed, first_diagram t ts are)
 
-    failed_out : Evaluates o show m s outside.input outside.out OutFault → Failed outside.out
+    failed_out : Evaluates o show m p outside.input outside.out OutFault → Failed outside.out
     failed_out ([], are, h) = h.0
     failed_out (t ∷ ts, are, (given, gave, h)) = h.0
 
-    silent_events : Evaluates o show m s outside.input outside.out EventsNotBuilt → IsUntouched outside.out
+    silent_events : Evaluates o show m p outside.input outside.out EventsNotBuilt → IsUntouched outside.out
     silent_events ([], are, h) = absurd h
     silent_events (t ∷ ts, are, (given, gave, (refused, quiet))) = quiet
 
-    silent_fault : Evaluates o show m s outside.input outside.out InputFault → IsUntouched outside.out
+    silent_fault : Evaluates o show m p outside.input outside.out InputFault → IsUntouched outside.out
     silent_fault ([], are, h) = absurd h
     silent_fault (t ∷ ts, are, (given, gave, (failed, quiet))) = quiet
 
     -- what stands with an input that is told
     module _ (input : List ℕ) (told : outside.input.before ≡ Some input) (ni : ¬ Failed outside.input) (nw : ¬ Failed outside.out) where
-      refused_events : (e : Ending) (ts : List Tree) → AreDiagrams s ts → EvaluatesBy o show m s ts outside.input outside.out e → (status_of e ≡ 6) ↔ (HasDiagram s × IsNoEvent o (length p.legs) input)
+      refused_events : (e : Ending) (ts : List Tree) → AreDiagrams s ts → EvaluatesBy o show m p ts outside.input outside.out e → (status_of e ≡ 6) ↔ (HasDiagram s × IsNoEvent o (length p.legs) input)
       refused_events Done [] are h = other_status (λ e. omega arith) (λ (d, none). (are.members d.0).1 d.1)
       refused_events OutFault [] are h = absurd (nw h.0)
       refused_events e [] are h = absurd h

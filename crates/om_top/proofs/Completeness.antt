@@ -2,12 +2,9 @@
 use Rattle.std.proofs.Common.{◌≡◌, ℕ, List, [], ◌∷◌, ◌++◌, length, map, Option, Some, None, IfSome, refl, ap, sym, ◌∙◌, subst, inl, inr, append-nil}
 use Rattle.om_ring.specs.Ops.{Ops}
 use Rattle.om_io.specs.Bytes.{before_told}
-use Rattle.om_model.specs.Answer.{IsAnswer}
-use Rattle.om_model.specs.Diagram.{AreDiagrams}
-use Rattle.om_model.specs.Entries.{feynman_rules}
-use Rattle.om_model.specs.Lines.{no_lines}
+use Rattle.om_model.specs.Diagrams.{AreDiagrams}
 use Rattle.om_model.specs.Model.{scattering_of}
-use Rattle.om_model.specs.ModelTable.{model_table}
+use Rattle.om_model.specs.ModelAnswer.{IsModelAnswer}
 use Rattle.om_model.specs.Theory.{Scattering}
 use Rattle.om_model.specs.Tree.{Tree}
 use Rattle.om_model.specs.declared.model.Model.{Model}
@@ -60,7 +57,7 @@ module _ {E : Type 0} (o : Ops E) (show : E → List ℕ) (outside : Outside) (m
 
   module _ (bytes : List ℕ) (legs : List LegNumbers) (told : outside.input.before ≡ Some bytes) (event : IsEvent o (length p.legs) bytes legs) (ni : ¬ Failed outside.input) where
     -- with a diagram the text of the answer to the event was written
-    answers : (ending : Ending) (ts : List Tree) → AreDiagrams s ts → HasDiagram s → EvaluatesBy o show m s ts outside.input outside.out ending → (ending ≡ Done) × GainsAnswer o show outside m p legs
+    answers : (ending : Ending) (ts : List Tree) → AreDiagrams s ts → HasDiagram s → EvaluatesBy o show m p ts outside.input outside.out ending → (ending ≡ Done) × GainsAnswer o show outside m p legs
     answers ending [] are (t, is) h = absurd ((are.members t).1 is)
     answers Done (t ∷ ts) are some (given, gave, (done, a, answered, gained)) =
         let all : bytes ≡ given = all_given outside.input.after given bytes (rest_of outside.input.before outside.input.after given bytes told gave) done in
@@ -69,7 +66,7 @@ module _ {E : Type 0} (o : Ops E) (show : E → List ℕ) (outside : Outside) (m
           refl,
           record {
             answer = a;
-            is_answer = subst (λ (ls : List LegNumbers). IsAnswer o s (feynman_rules o m (model_table o m)) no_lines (event_of o (map (incoming_of o) ls)) a) same answered.is_answer;
+            is_answer = subst (λ (ls : List LegNumbers). IsModelAnswer o m p (event_of o (map (incoming_of o) ls)) a) same answered.is_answer;
             gained = gained;
           },
         )
@@ -79,7 +76,7 @@ module _ {E : Type 0} (o : Ops E) (show : E → List ℕ) (outside : Outside) (m
     answers ending (t ∷ ts) are some (given, gave, h) = absurd h
 
   -- without one the one line was written
-  no_answer : (ending : Ending) (ts : List Tree) → AreDiagrams s ts → ¬ HasDiagram s → EvaluatesBy o show m s ts outside.input outside.out ending → (ending ≡ Done) × IsUntouched outside.input × Gained outside.out no_amplitude
+  no_answer : (ending : Ending) (ts : List Tree) → AreDiagrams s ts → ¬ HasDiagram s → EvaluatesBy o show m p ts outside.input outside.out ending → (ending ≡ Done) × IsUntouched outside.input × Gained outside.out no_amplitude
   no_answer ending (t ∷ ts) are never h = absurd (never (t, (are.members t).0 (inl refl)))
   no_answer Done [] are never (quiet, gained) = (refl, quiet, gained)
   no_answer OutFault [] are never h = absurd (nw h.0)

@@ -4,14 +4,16 @@ use Rattle.om_ring.specs.Ops.{Ops, Laws}
 use Rattle.om_ring.specs.Members.{In}
 use Rattle.om_model.specs.Theory.{Scattering}
 use Rattle.om_model.specs.Tree.{Tree}
-use Rattle.om_model.specs.Diagram.{AreDiagrams, is_diagram}
+use Rattle.om_model.specs.Diagrams.{AreDiagrams, counts}
 use Rattle.om_model.specs.Entries.{feynman_rules}
 use Rattle.om_model.specs.ModelTable.{model_table}
 use Rattle.om_model.specs.FeynmanRules.{FeynmanRules}
 use Rattle.om_model.specs.Rules.{IsAccepted}
 use Rattle.om_model.specs.ScalarRules.{HasColourlessScalars, scalar_rules}
-use Rattle.om_model.specs.Lines.{no_lines}
+use Rattle.om_top.specs.NoLines.{no_lines}
+use Rattle.om_model.specs.Lines.{Lines}
 use Rattle.om_model.specs.Model.{scattering_of}
+use Rattle.om_model.specs.ModelAnswer.{IsModelAnswer}
 use Rattle.om_model.specs.Answer.{Answer, IsAnswer}
 use Rattle.om_model.specs.declared.model.Model.{Model}
 use Rattle.om_model.specs.declared.process.Process.{Process}
@@ -25,11 +27,12 @@ use Rattle.om_top.specs.Stages.{Writes, ReadsInput, ReadsLegs}
 use Rattle.om_top.specs.declared.ending.Ending.{Ending}
 use Rattle.om_top.specs.declared.ending.Ending.TheVariants.{Done, EventsNotBuilt, InputFault, OutFault}
 use Rattle.om_top.specs.declared.event.Incoming.{Incoming}
+use Rattle.om_top.proofs.LinesOfScalars.{lines_are}
 use Rattle.om_top.proofs.ScalarModels.{rules_are}
 
--- no tree is a diagram
+-- no diagram counts
 abbrev pub NoDiagram : Scattering → Type 0
-NoDiagram s = (t : Tree) → is_diagram s t ≡ true → ⊥
+NoDiagram s = (t : Tree) → counts s t ≡ true → ⊥
 
 none_of : (s : Scattering) (ts : List Tree) → AreDiagrams s ts → NoDiagram s → ts ≡ []
 none_of s [] are never = refl
@@ -46,7 +49,7 @@ module _ {E : Type 0} (o : Ops E) (show : E → List ℕ) (m : Model) (p : Proce
   s = scattering_of m p
 
   -- without a diagram one line was written
-  by_none : (ts : List Tree) (ending : Ending) → ts ≡ [] → HasNoAmplitude input out ending → EvaluatesBy o show m s ts input out ending
+  by_none : (ts : List Tree) (ending : Ending) → ts ≡ [] → HasNoAmplitude input out ending → EvaluatesBy o show m p ts input out ending
   by_none [] ending empty h = h
   by_none (t ∷ ts) ending empty h = cc
 
@@ -57,13 +60,13 @@ module _ {E : Type 0} (o : Ops E) (show : E → List ℕ) (m : Model) (p : Proce
 
   -- with a diagram the input was read
   abbrev Answers : Ending → Type 0
-  Answers ending = (given : List ℕ) × Gave input given × AnswersEvent o show m s input out given ending
+  Answers ending = (given : List ℕ) × Gave input given × AnswersEvent o show m p input out given ending
 
-  by_some : (ts : List Tree) (ending : Ending) → (ts ≡ [] → ⊥) → Answers ending → EvaluatesBy o show m s ts input out ending
+  by_some : (ts : List Tree) (ending : Ending) → (ts ≡ [] → ⊥) → Answers ending → EvaluatesBy o show m p ts input out ending
   by_some [] ending some h = absurd (some refl)
   by_some (t ∷ ts) ending some h = h
 
-  evaluates : (ending : Ending) → (diagrams s ≡ [] → ⊥) → Answers ending → Evaluates o show m s input out ending
+  evaluates : (ending : Ending) → (diagrams s ≡ [] → ⊥) → Answers ending → Evaluates o show m p input out ending
   evaluates ending some h = (diagrams s, diagrams_are s, by_some (diagrams s) ending some h)
 
   -- there was no event
@@ -73,13 +76,14 @@ module _ {E : Type 0} (o : Ops E) (show : E → List ℕ) (m : Model) (p : Proce
   without_event event ending some quiet (given, gave, r) = absurd r
 
   answered : Laws o → IsAccepted o m → HasColourlessScalars m → (event : List (Incoming E)) (given : List ℕ) (a : Answer E) → ReadsLegs o (length p.legs) input given event
-      → IsAnswer o s (scalar_rules o (table_of o (model_numbers o m))) no_lines (event_of o event) a → IsAnswered o show m s given a
+      → IsAnswer o s (scalar_rules o (table_of o (model_numbers o m))) no_lines (event_of o event) a → IsAnswered o show m p given a
   answered l accepted scalars event given a r h = record {
     legs = r.legs;
     is_event = r.is_event;
     is_answer =
-        subst (λ (event : List (Incoming E)). IsAnswer o s (feynman_rules o m (model_table o m)) no_lines (event_of o event) a) r.places
-        (subst (λ (r : FeynmanRules E). IsAnswer o s r no_lines (event_of o event) a) (sym (rules_are o m l accepted scalars)) h);
+        subst (λ (event : List (Incoming E)). IsModelAnswer o m p (event_of o event) a) r.places
+        (subst (λ (w : Lines). IsAnswer o s (feynman_rules o m (model_table o m)) w (event_of o event) a) (sym (lines_are m scalars p))
+        (subst (λ (r : FeynmanRules E). IsAnswer o s r no_lines (event_of o event) a) (sym (rules_are o m l accepted scalars)) h));
   }
 
   -- the answer to the event was written

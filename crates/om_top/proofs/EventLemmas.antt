@@ -6,7 +6,7 @@ use Rattle.om_ring.specs.Ops.{Ops, Laws}
 use Rattle.om_ring.specs.Sums.{sum_over}
 use Rattle.om_model.specs.Theory.{Scattering}
 use Rattle.om_model.specs.Event.{Event, Balances}
-use Rattle.om_model.specs.Lines.{no_lines}
+use Rattle.om_top.specs.NoLines.{no_flow, no_lines}
 use Rattle.om_model.specs.Propagator.{EdgeName}
 use Rattle.om_model.specs.Answer.{Answer, IsAnswer}
 use Rattle.om_model.specs.Answer.Answer.{unbalanced, pole, values}
@@ -39,9 +39,9 @@ module _ {E : Type 0} (o : Ops E) (l : Laws o) (t : Numbers E) (e : Event E) (s 
   pub answers_nothing : (ks : List ℕ) → ks ≡ d.legs → AddUp o e ks → (ds : List Diagram) → ds ≡ d.list → ds ≡ [] → Answers (values [])
   answers_nothing ks p b ds q n = no_values_are s d h o l t e (all_legs ks p b) (sym q ∙ n)
 
-  pub answers_values : (ks : List ℕ) → ks ≡ d.legs → AddUp o e ks → (ds : List Diagram) → ds ≡ d.list → None ≡ least_pole_of o t e None ds → (ds ≡ [] → ⊥) → (w x y : E) → w ≡ wave_product o e ks → x ≡ sum_over o ds (shape_value o t e) → y ≡ o.times w x → Answers (values (([], y) ∷ []))
+  pub answers_values : (ks : List ℕ) → ks ≡ d.legs → AddUp o e ks → (ds : List Diagram) → ds ≡ d.list → None ≡ least_pole_of o t e None ds → (ds ≡ [] → ⊥) → (w x y : E) → w ≡ wave_product o e ks → x ≡ sum_over o ds (shape_value o t e) → y ≡ o.times w x → Answers (values ((no_flow, y) ∷ []))
   answers_values ks p b ds q f n w x y pw px py =
-      let P : E → Type 0 = λ z. Answers (values (([], z) ∷ [])) in
+      let P : E → Type 0 = λ z. Answers (values ((no_flow, z) ∷ [])) in
       let same = py ∙ ap₂ o.times (pw ∙ ap (wave_product o e) p) (px ∙ ap (λ xs. sum_over o xs (shape_value o t e)) q) in
       subst P (sym same) (values_are s d h o l t e (all_legs ks p b) (least ds q None f) (λ r. n (q ∙ r)))
 

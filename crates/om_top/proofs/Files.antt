@@ -1,6 +1,7 @@
 -- What the bytes of a file say.
 use Rattle.std.proofs.Common.{◌≡◌, ℕ, ◌≤◌, ◌<◌, List, length, Ok, refl, subst, arith, inl}
 use Rattle.om_ring.specs.Ops.{Ops}
+use Rattle.om_model.specs.declared.limits.TheConstants.{MOST_PARTICLES}
 use Rattle.om_model.specs.Rules.{Breaks, IsAccepted}
 use Rattle.om_model.specs.declared.model.Model.{Model}
 use Rattle.om_model.specs.declared.rules.ModelRule.TheVariants.{Limit}
@@ -11,9 +12,9 @@ use Rattle.om_modelfile.specs.declared.fault.ModelFault.TheVariants.{Rule, Memor
 use Rattle.om_top.specs.Loads.{SaysFault}
 
 -- an accepted model has at most 64 particles
-pub few_particles : {E : Type 0} (o : Ops E) (m : Model) → IsAccepted o m → length m.particles ≤ 64
+pub few_particles : {E : Type 0} (o : Ops E) (m : Model) → IsAccepted o m → length m.particles ≤ MOST_PARTICLES
 few_particles o m accepted =
-    let never : 64 < length m.particles → ⊥ = λ many. accepted (record { rule = Limit; table = Top; row = 0 }) (refl, refl, inl many) in
+    let never : MOST_PARTICLES < length m.particles → ⊥ = λ many. accepted (record { rule = Limit; table = Top; row = 0 }) (refl, refl, inl many) in
     omega (arith, never)
 
 module _ {E : Type 0} (o : Ops E) (bytes : List ℕ) where

@@ -12,7 +12,8 @@ use Rattle.om_ring.specs.declared.numeral.Numeral.{Numeral}
 use Rattle.om_ring.specs.declared.numeral.NumeralFault.{NumeralFault}
 use Rattle.om_ring.proofs.NumeralReads.{numeral_of-reads}
 use Rattle.om_top.specs.declared.event_text.LegNumbers.{LegNumbers}
-use Rattle.om_top.specs.Scan.{◌>>=◌, after_piece, behind_word, is_in_word, word_of}
+use Rattle.om_ring.specs.OptionSteps.{◌>>=◌}
+use Rattle.om_top.specs.Scan.{after_piece, behind_word, is_in_word, word_of}
 use Rattle.om_top.specs.EventScan.{are_valued, event_in, front_leg, front_leg_number, front_legs, front_number, front_numbers, front_numeral, front_valued, if_all_read, numeral_found}
 use Rattle.om_top.specs.EventText.{AreLines, AreRead, IsEvent, IsLeg, IsLine, numbers_of}
 use Rattle.om_top.proofs.Fronts.{piece_spelled}

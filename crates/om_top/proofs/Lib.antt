@@ -10,6 +10,9 @@ pub mod Spelled
 pub mod EventSize
 pub mod Places
 pub mod Given
+pub mod NamedEdges
+pub mod LinesOfScalars
+pub mod AskedWords
 pub mod ScalarModels
 pub mod EdgeSize
 pub mod Evaluations
@@ -36,3 +39,5 @@ pub mod ShapeLemmas
 pub mod CountLemmas
 pub mod PoleLemmas
 pub mod EventLemmas
+pub mod CallLemmas
+pub mod CallBounds

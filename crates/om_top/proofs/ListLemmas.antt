@@ -16,29 +16,11 @@ of_flat_map f y (x ∷ xs) h =
     (λ i. let w = of_flat_map f y xs i in record { source = w.source; is_in = inr w.is_in; gives = w.gives })
     (in_either y (f x) (flat_map f xs) h)
 
--- where a member of a map comes from
-pub record IsImage {A B : Type 0} (f : A → B) (y : B) (xs : List A) : Type 0 where
-  pub source : A
-  pub is_in : In source xs
-  pub is : y ≡ f source
-
-pub of_map : {A B : Type 0} (f : A → B) (y : B) (xs : List A) → In y (map f xs) → IsImage f y xs
-of_map f y [] h = absurd h
-of_map f y (x ∷ xs) (inl e) = record { source = x; is_in = inl refl; is = e }
-of_map f y (x ∷ xs) (inr h) = let w = of_map f y xs h in record { source = w.source; is_in = inr w.is_in; is = w.is }
-
 pub different_append : {A : Type 0} (xs ys : List A) → Different xs → Different ys → ((z : A) → In z xs → In z ys → ⊥) → Different (xs ++ ys)
 different_append [] ys dx dy apart = dy
 different_append (x ∷ xs) ys dx dy apart = (
   (λ h. ⊎_elim dx.0 (λ i. apart x (inl refl) i) (in_either x xs ys h)),
   different_append xs ys dx.1 dy (λ z i j. apart z (inr i) j),
-)
-
-pub different_map : {A B : Type 0} (f : A → B) (xs : List A) → ((x y : A) → In x xs → In y xs → f x ≡ f y → x ≡ y) → Different xs → Different (map f xs)
-different_map f [] one d = tt
-different_map {A} f (x ∷ xs) one d = (
-  (λ h. let w = of_map f (f x) xs h in d.0 (let P : A → Type 0 = λ u. In u xs in subst P (sym (one x w.source (inl refl) (inr w.is_in) w.is)) w.is_in)),
-  different_map f xs (λ y z i j. one y z (inr i) (inr j)) d.1,
 )
 
 -- the lists of different members are different and share nothing
@@ -47,14 +29,6 @@ different_flat_map f [] d each apart = tt
 different_flat_map {A} f (x ∷ xs) d each apart =
     different_append (f x) (flat_map f xs) (each x (inl refl)) (different_flat_map f xs d.1 (λ y i. each y (inr i)) (λ y z u i j. apart y z u (inr i) (inr j)))
     (λ z i j. let w = of_flat_map f z xs j in d.0 (let P : A → Type 0 = λ u. In u xs in subst P (sym (apart x w.source z (inl refl) (inr w.is_in) i w.gives)) w.is_in))
-
-pub different_filter : {A : Type 0} (p : A → Bool) (xs : List A) → Different xs → Different (filter p xs)
-different_filter p [] d = tt
-different_filter p (x ∷ xs) d = by (p x) (λ h. d.0 ((in_filter p x xs).0 h).0) (different_filter p xs d.1)
-  where
-    by : (b : Bool) → (In x (filter p xs) → ⊥) → Different (filter p xs) → Different (cond b (x ∷ filter p xs) (filter p xs))
-    by true n d = (n, d)
-    by false n d = d
 
 -- a member of a list that is taken on a condition
 pub in_cond : {A : Type 0} (b : Bool) (x : A) (xs : List A) → In x (cond b xs []) → (b ≡ true) × In x xs

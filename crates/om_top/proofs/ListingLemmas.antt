@@ -17,7 +17,7 @@ use Rattle.om_top.specs.declared.combinations.Split.{Split}
 use Rattle.om_top.specs.declared.interactions.Interaction.{Interaction}
 use Rattle.om_top.specs.declared.diagrams.Diagram.{Diagram}
 use Rattle.om_top.specs.Choices.{stands_in, splits}
-use Rattle.om_top.specs.TreeLists.{pairs_of, branches_over, leaves_over, interactions, is_few, joins_with, joins_at, joins_over, trees_over, diagram_list}
+use Rattle.om_top.specs.TreeLists.{pairs_of, branches_over, leaves_over, interactions, is_few, joins_with, joins_at, joins_over, trees_over, hanging_list}
 use Rattle.om_top.specs.Shapes.{shape_of, shape_below, shape_of_all, shape_under, joined_pairs, name_over}
 use Rattle.om_top.proofs.SetLemmas.{set_number_below}
 use Rattle.om_top.proofs.ShapeLemmas.{shape_pairs, shape_tops, shape_trees, shape_none}
@@ -157,8 +157,8 @@ module _ (s : Scattering) where
       n ∙ ap₂ (λ xs a. xs ++ map (shape_under s a) (joins_over s (trees_over s e) ks f)) q r ∙ sym (shape_trees s e ks f) ∙ ap (λ m. map (shape_below s) (trees_over s m ks f)) p
 
   -- all diagrams
-  pub all_listed : (d : ℕ) (ks : List ℕ) (f : ℕ) (above : List EdgeName) (old found : List Diagram) → d ≡ s.size → ks ≡ upto (s.size - 1) → f ≡ s.theory.anti (s.field s.size) → above ≡ [] → old ≡ [] → found ≡ old ++ map (shape_under s above) (joins_over s (trees_over s d) ks f) → found ≡ map (shape_of s) (diagram_list s)
-  unfolding diagram_list
+  pub all_listed : (d : ℕ) (ks : List ℕ) (f : ℕ) (above : List EdgeName) (old found : List Diagram) → d ≡ s.size → ks ≡ upto (s.size - 1) → f ≡ s.theory.anti (s.field s.size) → above ≡ [] → old ≡ [] → found ≡ old ++ map (shape_under s above) (joins_over s (trees_over s d) ks f) → found ≡ map (shape_of s) (hanging_list s)
+  unfolding hanging_list
   all_listed d ks f above old found p q r a b e =
       e ∙ ap₂ (λ xs ys. xs ++ map (shape_under s ys) (joins_over s (trees_over s d) ks f)) b a
       ∙ ap (map (shape_of s)) (ap₂ (λ m ls. joins_over s (trees_over s m) ls f) p q ∙ ap (joins_over s (trees_over s s.size) (upto (s.size - 1))) r)

@@ -1,5 +1,7 @@
 -- One more member of a list in a sum, a product or a list.
 use Rattle.std.proofs.Common.{◌≡◌, ℕ, suc, ◌+◌, ◌<◌, List, [], ◌∷◌, ◌++◌, length, take, get_or, flat_map, ap, ap₂, sym, append-nil, ◌∙◌, arith}
+use Rattle.std.specs.List.{fold}
+use Rattle.std.proofs.lemmas.Grind.{fold-append}
 use Rattle.std.proofs.lemmas.List.{take_more, flat_map_more}
 use Rattle.om_ring.specs.Ops.{Ops, Laws}
 use Rattle.om_ring.specs.Sums.{sum_over}
@@ -26,6 +28,9 @@ module _ {E : Type 0} (o : Ops E) (l : Laws o) where
 pub flat_map_step : {A B : Type 0} (f : A → List B) (xs : List A) (i : ℕ) (x : A) (found next : List B) → i < length xs → x ≡ get_or xs i x → found ≡ flat_map f (take i xs) → next ≡ found ++ f x → next ≡ flat_map f (take (i + 1) xs)
 flat_map_step f xs i x found next h is p e =
     e ∙ ap₂ ◌++◌ p (ap f is) ∙ flat_map_more f [] (take i xs) (get_or xs i x) ∙ ap (flat_map f) (sym (take_more xs i x h))
+
+pub fold_step : {A B : Type 0} (f : B → A → B) (start : B) (xs : List A) (i : ℕ) (x : A) (found next : B) → i < length xs → x ≡ get_or xs i x → found ≡ fold f start (take i xs) → next ≡ f found x → next ≡ fold f start (take (i + 1) xs)
+fold_step f start xs i x found next h is p e = e ∙ ap₂ f p is ∙ sym (ap (fold f start) (take_more xs i x h) ∙ fold-append f start (take i xs) (get_or xs i x ∷ []))
 
 -- a loop over the numbers from 0 on
 pub numbers_none : {B : Type 0} (f : ℕ → List B) (old : List B) → old ≡ old ++ flat_map f (below 0)

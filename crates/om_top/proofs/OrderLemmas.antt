@@ -3,11 +3,12 @@ use Rattle.std.proofs.Common.{◌≡◌, ℕ, zero, suc, ◌<◌, List, [], ◌�
 use Rattle.std.proofs.lemmas.Bool.Decides.{nat_tests}
 use Rattle.std.specs.List.{fold}
 use Rattle.om_ring.specs.Members.{In, Different}
+use Rattle.om_ring.proofs.Members.{different_filter, different_map, of_map}
 use Rattle.om_model.specs.Diagram.{times_in, same_numbers}
 use Rattle.om_model.proofs.Membership.{in_left, in_right, in_either, in_map, in_flat_map, in_filter}
 use Rattle.om_model.proofs.Counting.{in_of_times, times_of_in, same_times}
 use Rattle.om_top.specs.Choices.{below, stands_in, with_new, once, words, orders_of}
-use Rattle.om_top.proofs.ListLemmas.{of_map, different_append, different_map, different_flat_map, different_filter}
+use Rattle.om_top.proofs.ListLemmas.{different_append, different_flat_map}
 use Rattle.om_top.proofs.Numbers.{same_in, same_length}
 
 -- the numbers below n
@@ -79,7 +80,7 @@ words_differ zero xs d = ((λ h. h), tt)
 words_differ (suc n) xs d =
     different_flat_map (λ w. map (λ x. x ∷ w) xs) (words n xs) (words_differ n xs d)
     (λ w i. different_map (λ x. x ∷ w) xs (λ x y a b e. (same_parts x y w w e).0) d)
-    (λ v w z i j a b. let p = of_map (λ x. x ∷ v) z xs a in let q = of_map (λ x. x ∷ w) z xs b in (same_parts p.source q.source v w (sym p.is ∙ q.is)).1)
+    (λ v w z i j a b. let p = of_map (λ x. x ∷ v) xs z a in let q = of_map (λ x. x ∷ w) xs z b in (same_parts p.source q.source v w (sym p.is ∙ q.is)).1)
 
 pub in_orders_of : (w xs : List ℕ) → In w (orders_of xs) ↔ (same_numbers w xs ≡ true)
 unfolding orders_of

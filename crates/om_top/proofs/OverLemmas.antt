@@ -1,6 +1,7 @@
 -- The trees of the lists have the legs and the field that are asked for, whatever the order of the legs.
 use Rattle.std.proofs.Common.{◌≡◌, ℕ, zero, suc, List, [], ◌∷◌, map, flat_map, length, ◌&&◌, eqb, ltb, inl, inr, ⊎_elim, ap, ◌∙◌, arith}
 use Rattle.om_ring.specs.Members.{In}
+use Rattle.om_ring.proofs.Members.{of_map}
 use Rattle.om_model.specs.Theory.{Scattering}
 use Rattle.om_model.specs.Tree.{Tree, Branches, legs, legs_all}
 use Rattle.om_model.specs.Tree.Tree.{leaf, join}
@@ -9,7 +10,7 @@ use Rattle.om_model.proofs.Membership.{in_either}
 use Rattle.om_model.proofs.Counting.{times_in-append}
 use Rattle.om_top.specs.Choices.{splits}
 use Rattle.om_top.specs.TreeLists.{pairs_of, branches_over, leaves_over, interactions, is_few, joins_with, joins_at, joins_over, trees_over}
-use Rattle.om_top.proofs.ListLemmas.{of_flat_map, of_map, in_cond}
+use Rattle.om_top.proofs.ListLemmas.{of_flat_map, in_cond}
 use Rattle.om_top.proofs.Numbers.{Same}
 use Rattle.om_top.proofs.SplitLemmas.{shares_out}
 use Rattle.om_top.proofs.BranchLemmas.{of_pairs}
@@ -47,7 +48,7 @@ module _ (s : Scattering) where
   joins_with_legs trees h ks f v c [] t i = absurd i
   joins_with_legs trees h ks f v c (u ∷ gs) t i =
       let a = in_cond (eqb u (s.theory.anti f) && is_few (length gs)) t (map (join f v c) (branches_over trees gs ks)) i in
-      let m = of_map (join f v c) t (branches_over trees gs ks) a.1 in
+      let m = of_map (join f v c) (branches_over trees gs ks) t a.1 in
       record { vertex = v; choice = c; branches = m.source; is = m.is; over = branches_legs trees h gs ks m.source m.is_in }
 
   joins_legs : (trees : List ℕ → ℕ → List Tree) → LegsAsAsked trees → (ks : List ℕ) (f : ℕ) (t : Tree) → In t (joins_over s trees ks f) → JoinsOver ks f t

@@ -1,15 +1,15 @@
 -- What `eval` leaves, from what its parts leave.
 use Rattle.std.proofs.Common.{ℕ, ◌≤◌, List, [], ◌∷◌, length}
 use Rattle.om_ring.specs.Ops.{Ops}
-use Rattle.om_model.specs.Model.{scattering_of}
 use Rattle.om_model.specs.ScalarRules.{HasColourlessScalars}
 use Rattle.om_model.specs.Tree.{Tree}
 use Rattle.om_model.specs.declared.model.Model.{Model}
 use Rattle.om_model.specs.declared.process.Process.{Process}
 use Rattle.om_top.specs.Eval.{EvaluatesProcess, EvaluatesBy}
 use Rattle.om_top.specs.EvalRan.{EvalRan}
-use Rattle.om_top.specs.Loads.{HoldsModel, LoadsNoModel, LoadsNoProcess, SaysProcess, most_legs}
+use Rattle.om_top.specs.Loads.{HoldsModel, LoadsNoModel, LoadsNoProcess, SaysProcess}
 use Rattle.om_top.specs.Outside.{Side, IsUntouched}
+use Rattle.om_top.specs.declared.limits.TheConstants.{MOST_EVALUATED_LEGS}
 use Rattle.om_top.specs.declared.ending.Ending.{Ending}
 use Rattle.om_top.specs.declared.ending.Ending.TheVariants.{Done, ModelTooLong, ModelFault, ProcessFault, ProcessNotBuilt, EventsNotBuilt, FileFault, InputFault, OutFault, NoMemory}
 
@@ -39,7 +39,7 @@ module _ {E : Type 0} (o : Ops E) (show : E → List ℕ) (m : Model) (file : Si
   Ends OutFault = Unit {0}
   Ends _ = ⊥
 
-  ends : (p : Process) (ts : List Tree) (ending : Ending) → EvaluatesBy o show m (scattering_of m p) ts input out ending → Ends ending
+  ends : (p : Process) (ts : List Tree) (ending : Ending) → EvaluatesBy o show m p ts input out ending → Ends ending
   ends p ts Done h = tt
   ends p ts EventsNotBuilt h = tt
   ends p ts InputFault h = tt
@@ -48,7 +48,7 @@ module _ {E : Type 0} (o : Ops E) (show : E → List ℕ) (m : Model) (file : Si
   ends p (t ∷ ts) ending (given, gave, h) = h
 
   -- the process was evaluated
-  pub runs : (p : Process) (ending : Ending) → HasColourlessScalars m → SaysProcess m text p → length p.legs ≤ most_legs → EvaluatesProcess o show m p input out ending
+  pub runs : (p : Process) (ending : Ending) → HasColourlessScalars m → SaysProcess m text p → length p.legs ≤ MOST_EVALUATED_LEGS → EvaluatesProcess o show m p input out ending
       → EvalRan o show file text input out ending
   runs p Done scalars says few h = (m, holds, (scalars, (p, says, few, h)))
   runs p EventsNotBuilt scalars says few h = (m, holds, (scalars, (p, says, few, h)))

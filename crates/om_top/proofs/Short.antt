@@ -2,6 +2,7 @@
 use Rattle.std.proofs.Common.{ℕ, ◌<◌, ◌^◌, List, [], ◌∷◌, length, map}
 use Rattle.std.specs.Prelude.{All, ◌↔◌}
 use Rattle.std.proofs.lemmas.List.Elements.{All-nil, All-cons, All-head, All-tail, All-map}
+use Rattle.om_top.specs.declared.limits.TheConstants.{WORD_LIMIT}
 use Rattle.om_top.specs.Limits.{IsWithinLimits}
 use Rattle.std.proofs.lemmas.List.{length-map}
 
@@ -10,8 +11,8 @@ from_map P f [] h = All-nil (λ x. P (f x))
 from_map P f (x ∷ xs) h = All-cons (λ x. P (f x)) x xs (All-head P (f x) (map f xs) h) (from_map P f xs (All-tail P (f x) (map f xs) h))
 
 -- words by their bytes
-pub within : {A : Type 0} (f : A → List ℕ) (xs : List A) → length xs < 2 ^ 31 → All (λ x. length (f x) < 2 ^ 31) xs ↔ IsWithinLimits (map f xs)
+pub within : {A : Type 0} (f : A → List ℕ) (xs : List A) → length xs < WORD_LIMIT → All (λ x. length (f x) < WORD_LIMIT) xs ↔ IsWithinLimits (map f xs)
 within f xs few = (
-  λ short. record { few = rw length-map few; short = All-map (λ w. length w < 2 ^ 31) f xs short },
-  λ h. from_map (λ w. length w < 2 ^ 31) f xs h.short,
+  λ short. record { few = rw length-map few; short = All-map (λ w. length w < WORD_LIMIT) f xs short },
+  λ h. from_map (λ w. length w < WORD_LIMIT) f xs h.short,
 )

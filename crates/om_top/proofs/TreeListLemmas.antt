@@ -1,17 +1,19 @@
 -- The list of all diagrams: each diagram stands in it once, and nothing else.
-use Rattle.std.proofs.Common.{◌≡◌, ℕ, zero, suc, ◌-◌, ◌<◌, ◌≤◌, List, [], ◌∷◌, map, flat_map, length, Bool, true, false, cond, ◌&&◌, eqb, ltb, inl, inr, ⊎_elim, refl, ap, ap₂, sym, subst, ◌∙◌, arith, true≢false}
+use Rattle.std.proofs.Common.{◌≡◌, ℕ, zero, suc, ◌-◌, ◌<◌, ◌≤◌, List, [], ◌∷◌, map, flat_map, length, Bool, true, false, cond, ◌&&◌, eqb, ltb, ◌↔◌, inl, inr, ⊎_elim, refl, ap, ap₂, sym, subst, ◌∙◌, arith, true≢false}
 use Rattle.std.proofs.lemmas.Bool.Decides.{nat_tests}
 use Rattle.om_ring.specs.Members.{In, Different}
+use Rattle.om_ring.proofs.Members.{different_filter, different_map, of_map}
 use Rattle.om_model.specs.Theory.{Scattering}
 use Rattle.om_model.specs.Tree.{Tree, Branches, legs, legs_all, count}
 use Rattle.om_model.specs.Tree.Tree.{leaf, join}
 use Rattle.om_model.specs.Diagram.{upto, times_in, same_numbers, field_of, fields_of, fits, is_diagram}
-use Rattle.om_model.proofs.Membership.{in_left, in_right, in_either, in_map, in_flat_map}
+use Rattle.om_model.specs.Diagrams.{counts}
+use Rattle.om_model.proofs.Membership.{in_left, in_right, in_either, in_map, in_flat_map, in_filter}
 use Rattle.om_model.proofs.Counting.{both, same_times, length-upto}
 use Rattle.om_top.specs.declared.interactions.Interaction.{Interaction}
 use Rattle.om_top.specs.Choices.{below, orders_of}
-use Rattle.om_top.specs.TreeLists.{branches_over, leaves_over, interactions_at, interactions_of, interactions, is_few, joins_with, joins_at, joins_over, trees_over, diagram_list, AreAll}
-use Rattle.om_top.proofs.ListLemmas.{of_flat_map, of_map, different_append, different_map, different_flat_map, different_one, in_cond, different_cond}
+use Rattle.om_top.specs.TreeLists.{branches_over, leaves_over, interactions_at, interactions_of, interactions, is_few, joins_with, joins_at, joins_over, trees_over, hanging_list, has_edges, diagram_list, AreAll}
+use Rattle.om_top.proofs.ListLemmas.{of_flat_map, different_append, different_flat_map, different_one, in_cond, different_cond}
 use Rattle.om_top.proofs.Numbers.{Same, same_in, same_length, same_numbers_of, IsRising, rising_upto}
 use Rattle.om_top.proofs.OrderLemmas.{in_below, below_differ, in_orders_of, orders_differ}
 use Rattle.om_top.proofs.FitLemmas.{FitsAt, of_fits, to_fits, length-fields_of, count_le}
@@ -32,7 +34,7 @@ module _ (s : Scattering) where
   of_interactions i h =
       let w = of_flat_map (interactions_of s.theory) i (below s.theory.vertices) h in
       let u = of_flat_map (interactions_at s.theory w.source) i (below (s.theory.choices w.source)) w.gives in
-      let m = of_map (at w.source u.source) i (orders_of (s.theory.slots w.source)) u.gives in
+      let m = of_map (at w.source u.source) (orders_of (s.theory.slots w.source)) i u.gives in
       let P : Interaction → Type 0 = λ j. IsInteraction j.vertex j.choice j.fields in
       let g : IsInteraction w.source u.source m.source = record { vertex = (in_below w.source s.theory.vertices).0 w.is_in; choice = (in_below u.source (s.theory.choices w.source)).0 u.is_in; slots = (in_orders_of m.source (s.theory.slots w.source)).0 m.is_in } in
       subst P (sym m.is) g
@@ -61,8 +63,8 @@ module _ (s : Scattering) where
     where
       met : (v w c d : ℕ) (i : Interaction) → In i (map (at v c) (orders_of (s.theory.slots v))) → In i (map (at w d) (orders_of (s.theory.slots w))) → (v ≡ w) × (c ≡ d)
       met v w c d i p q =
-          let a = of_map (at v c) i (orders_of (s.theory.slots v)) p in
-          let b = of_map (at w d) i (orders_of (s.theory.slots w)) q in
+          let a = of_map (at v c) (orders_of (s.theory.slots v)) i p in
+          let b = of_map (at w d) (orders_of (s.theory.slots w)) i q in
           let e = same_at v w c d a.source b.source (sym a.is ∙ b.is) in
           (e.0, e.1)
 
@@ -107,7 +109,7 @@ module _ (s : Scattering) where
   topped trees ks f v c (u ∷ gs) t h =
       let a = in_cond (eqb u (s.theory.anti f) && is_few (length gs)) t (map (join f v c) (branches_over trees gs ks)) h in
       let tests = both (eqb u (s.theory.anti f)) (is_few (length gs)) a.0 in
-      let m = of_map (join f v c) t (branches_over trees gs ks) a.1 in
+      let m = of_map (join f v c) (branches_over trees gs ks) t a.1 in
       let e : u ≡ s.theory.anti f = let x = tests.0 in grind (arith, nat_tests) in
       record { rest = gs; fields = ap (λ x. x ∷ gs) e; few = tests.1; branches = m.source; is = m.is; is_in = m.is_in }
 
@@ -265,14 +267,23 @@ module _ (s : Scattering) where
       let same : eqb f f ≡ true = grind (arith, nat_tests) in
       ap (is_diagram s) h.is ∙ ap₂ ◌&&◌ (ap₂ ◌&&◌ over same) fit
 
+  hanging_differ : Different (hanging_list s)
+  unfolding hanging_list
+  hanging_differ = joins_differ (trees_over s s.size) (trees_sound s.size) (trees_differ s.size) (upto (s.size - 1)) (s.theory.anti (s.field s.size)) (rising_upto (s.size - 1))
+
+  hanging_is : (t : Tree) → In t (hanging_list s) ↔ (is_diagram s t ≡ true)
+  unfolding hanging_list
+  hanging_is t =
+      let f = s.theory.anti (s.field s.size) in let ks = upto (s.size - 1) in (
+        (λ h. top_diagram t (of_joins (trees_over s s.size) (trees_sound s.size) ks f t (rising_upto (s.size - 1)) h)),
+        (λ h. to_joins (trees_over s s.size) (suc s.size) (trees_complete s.size) ks f t (rising_upto (s.size - 1)) (omega (arith, length-upto (s.size - 1))) (diagram_top t h)),
+      )
+
   pub lists_all : AreAll s (diagram_list s)
-  unfolding diagram_list
-  lists_all =
-      let f = s.theory.anti (s.field s.size) in let ks = upto (s.size - 1) in
-      record {
-        different = joins_differ (trees_over s s.size) (trees_sound s.size) (trees_differ s.size) ks f (rising_upto (s.size - 1));
-        members = λ t. (
-          (λ h. top_diagram t (of_joins (trees_over s s.size) (trees_sound s.size) ks f t (rising_upto (s.size - 1)) h)),
-          (λ h. to_joins (trees_over s s.size) (suc s.size) (trees_complete s.size) ks f t (rising_upto (s.size - 1)) (omega (arith, length-upto (s.size - 1))) (diagram_top t h)),
-        );
-      }
+  unfolding diagram_list counts
+  lists_all = record {
+    different = different_filter (has_edges s) (hanging_list s) hanging_differ;
+    members = λ t.
+        let a = in_filter (has_edges s) t (hanging_list s) in let h = hanging_is t in
+        ((λ i. ap₂ ◌&&◌ (h.0 (a.0 i).0) (a.0 i).1), (λ c. let b = both (is_diagram s t) (has_edges s t) c in a.1 (h.1 b.0, b.1)));
+  }

@@ -1,34 +1,22 @@
 -- The text of the answer to an event.
-use Rattle.std.specs.Prelude.{ℕ, ◌≤◌, ◌/◌, ◌%◌, ◌==◌, length, map, if◌then◌else◌, codes, decimal, List, [], ◌∷◌, ◌++◌, Option, Some, None, slice_get}
+use Rattle.std.specs.Prelude.{ℕ, ◌≤◌, length, map, codes, decimal, List, [], ◌∷◌, ◌++◌}
 use Rattle.std.specs.List.{flat_map}
+use Rattle.om_colour.specs.Texts.{flow_bytes}
 use Rattle.om_model.specs.Answer.{Answer}
 use Rattle.om_model.specs.Answer.Answer.{unbalanced, pole, values}
+use Rattle.om_model.specs.FieldNames.{field_name}
 use Rattle.om_model.specs.declared.model.Model.{Model}
-use Rattle.om_model.specs.declared.model.Particle.{Particle}
 
 -- legs, joined by plus signs
 abbrev pub set_text : List ℕ → List ℕ
 set_text [] = []
 set_text (k ∷ ks) = decimal k ++ flat_map (λ j. 43 ∷ decimal j) ks
 
--- the name of a particle or of its antiparticle
-abbrev pub field_name_of : Option Particle → ℕ → List ℕ
-field_name_of None f = []
-field_name_of (Some p) f = if f % 2 == 0 then p.name else p.anti
-
--- the name of a field of the model
-abbrev pub field_name : Model → ℕ → List ℕ
-field_name m f = field_name_of (slice_get m.particles (f / 2)) f
-
--- a flow without lines, as each is where no field has colour
-abbrev pub flow_text : List ℕ → List ℕ
-flow_text flow = codes "-"
-
 -- the lines of an answer, in which an element is written by `show`, without the number of the event
 abbrev pub outcome_lines : {E : Type 0} → (E → List ℕ) → Model → Answer E → List (List ℕ)
 outcome_lines show m unbalanced = codes "unbalanced" ∷ []
-outcome_lines show m (pole name) = (codes "pole " ++ set_text name.legs ++ codes " " ++ field_name m name.field) ∷ []
-outcome_lines show m (values vs) = map (λ v. flow_text v.0 ++ codes " " ++ show v.1) vs
+outcome_lines show m (pole name) = (codes "pole " ++ set_text name.legs ++ codes " " ++ field_name m.particles name.field) ∷ []
+outcome_lines show m (values vs) = map (λ v. flow_bytes (record { ends = v.0 }) ++ codes " " ++ show v.1) vs
 
 -- a line of the answer to event number e
 abbrev pub answer_line : ℕ → List ℕ → List ℕ

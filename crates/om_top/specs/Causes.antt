@@ -2,9 +2,9 @@
 use Rattle.std.specs.Prelude.{ℕ, ◌≡◌, ◌≢◌, ◌≤◌, ◌<◌, ◌↔◌, ◌⊎◌, Bool, true, false, List, [], ◌∷◌, length, Option, Some, None, Ok, Err}
 use Rattle.om_ring.specs.Ops.{Ops}
 use Rattle.om_ring.specs.Members.{In}
-use Rattle.om_model.specs.Diagram.{is_diagram}
+use Rattle.om_model.specs.Diagrams.{counts}
 use Rattle.om_model.specs.Model.{scattering_of}
-use Rattle.om_model.specs.ProcessText.{legs_of}
+use Rattle.om_model.specs.ProcessText.{process_of}
 use Rattle.om_model.specs.ScalarRules.{HasColourlessScalars}
 use Rattle.om_model.specs.Theory.{Scattering}
 use Rattle.om_model.specs.Tree.{Tree}
@@ -15,10 +15,11 @@ use Rattle.om_modelfile.specs.ModelOf.{SaysModel}
 use Rattle.om_modelfile.specs.declared.fault.ModelFault.{ModelFault}
 use Rattle.om_top.specs.Command.{Command, check, eval, model_name}
 use Rattle.om_top.specs.Eval.{IsNoEvent}
-use Rattle.om_top.specs.Loads.{HoldsModel, IsModelFile, SaysFault, SaysProcess, most_bytes, most_legs}
+use Rattle.om_top.specs.Loads.{HoldsModel, IsModelFile, SaysFault, SaysProcess}
 use Rattle.om_top.specs.Message.{status_of}
 use Rattle.om_top.specs.Outside.{Outside, Failed, Holds, IsUntouched, IsQuiet}
 use Rattle.om_top.specs.Ran.{Ran}
+use Rattle.om_top.specs.declared.limits.TheConstants.{MOST_EVALUATED_LEGS, MOST_FILE_BYTES}
 use Rattle.om_top.specs.declared.ending.Ending.{Ending}
 use Rattle.om_top.specs.declared.ending.Ending.TheVariants as ending
 
@@ -40,14 +41,14 @@ is_silent ending.EventsNotBuilt = true
 is_silent ending.InputFault = true
 is_silent _ = false
 
--- some tree is a diagram
+-- some diagram counts
 abbrev pub HasDiagram : Scattering → Type 0
-HasDiagram s = (t : Tree) × (is_diagram s t ≡ true)
+HasDiagram s = (t : Tree) × (counts s t ≡ true)
 
 -- the text is that of no process, or of one with more legs than are evaluated
 abbrev pub RefusesProcess : Model → List ℕ → Type 0
 RefusesProcess m text =
-    ((fault : ProcessFault) × (legs_of m text ≡ Err fault)) ⊎ ((p : Process) × SaysProcess m text p × (most_legs < length p.legs))
+    ((fault : ProcessFault) × (process_of m text ≡ Err fault)) ⊎ ((p : Process) × SaysProcess m text p × (MOST_EVALUATED_LEGS < length p.legs))
 
 -- the command can't be done with such a model
 abbrev pub IsNotBuilt : Command → Model → Type 0
@@ -58,14 +59,14 @@ module _ {E : Type 0} (o : Ops E) where
   -- the file has too many bytes, a fault, or a model that the command can't be done with
   abbrev pub RefusesModel : Command → List ℕ → Type 0
   RefusesModel command file =
-      (most_bytes < length file) ⊎ ((fault : ModelFault) × SaysFault o file fault) ⊎ ((m : Model) × SaysModel o file (Ok m) × IsNotBuilt command m)
+      (MOST_FILE_BYTES < length file) ⊎ ((fault : ModelFault) × SaysFault o file fault) ⊎ ((m : Model) × SaysModel o file (Ok m) × IsNotBuilt command m)
 
   -- the file and the text are those of a model and a process that are evaluated
   pub record AreEvaluated (file text : List ℕ) (m : Model) (p : Process) : Type 0 where
     pub model : IsModelFile o file m
     pub scalars : HasColourlessScalars m
     pub process : SaysProcess m text p
-    pub few : length p.legs ≤ most_legs
+    pub few : length p.legs ≤ MOST_EVALUATED_LEGS
 
   -- nothing is refused before anything is written
   abbrev pub IsAccepted : Command → Outside → Type 0

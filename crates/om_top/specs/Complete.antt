@@ -1,11 +1,9 @@
 -- When a command is done.
 use Rattle.std.specs.Prelude.{ℕ, ◌≡◌, ◌⊎◌, List, length, map, Some}
 use Rattle.om_ring.specs.Ops.{Ops}
-use Rattle.om_model.specs.Answer.{Answer, IsAnswer}
-use Rattle.om_model.specs.Entries.{feynman_rules}
-use Rattle.om_model.specs.ModelTable.{model_table}
-use Rattle.om_model.specs.Lines.{no_lines}
+use Rattle.om_model.specs.Answer.{Answer}
 use Rattle.om_model.specs.Model.{scattering_of}
+use Rattle.om_model.specs.ModelAnswer.{IsModelAnswer}
 use Rattle.om_model.specs.declared.model.Model.{Model}
 use Rattle.om_model.specs.declared.process.Process.{Process}
 use Rattle.om_top.specs.AnswerText.{answer_text, no_amplitude}
@@ -26,7 +24,7 @@ module _ {E : Type 0} (o : Ops E) (show : E → List ℕ) where
   -- the output gained the text of the answer to an event
   pub record GainsAnswer (outside : Outside) (m : Model) (p : Process) (legs : List LegNumbers) : Type 0 where
     pub answer : Answer E
-    pub is_answer : IsAnswer o (scattering_of m p) (feynman_rules o m (model_table o m)) no_lines (event_of o (map (incoming_of o) legs)) answer
+    pub is_answer : IsModelAnswer o m p (event_of o (map (incoming_of o) legs)) answer
     pub gained : Gained outside.out (answer_text show m 1 answer)
 
   -- where the file and the text are those of a model and a process that are evaluated, there is a diagram, the input is one

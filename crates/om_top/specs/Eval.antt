@@ -1,13 +1,10 @@
 -- What an evaluation does and leaves, by how it ends.
-use Rattle.std.specs.Prelude.{ℕ, ◌⊎◌, List, [], ◌∷◌, ◌++◌, map}
+use Rattle.std.specs.Prelude.{ℕ, ◌⊎◌, List, [], ◌∷◌, ◌++◌, length, map}
 use Rattle.om_ring.specs.Ops.{Ops}
-use Rattle.om_model.specs.Answer.{Answer, IsAnswer}
-use Rattle.om_model.specs.Diagram.{AreDiagrams}
-use Rattle.om_model.specs.Entries.{feynman_rules}
-use Rattle.om_model.specs.ModelTable.{model_table}
-use Rattle.om_model.specs.Lines.{no_lines}
+use Rattle.om_model.specs.Answer.{Answer}
+use Rattle.om_model.specs.Diagrams.{AreDiagrams}
 use Rattle.om_model.specs.Model.{scattering_of}
-use Rattle.om_model.specs.Theory.{Scattering}
+use Rattle.om_model.specs.ModelAnswer.{IsModelAnswer}
 use Rattle.om_model.specs.Tree.{Tree}
 use Rattle.om_model.specs.declared.model.Model.{Model}
 use Rattle.om_model.specs.declared.process.Process.{Process}
@@ -29,17 +26,17 @@ IsNoEvent o n text = (legs : List LegNumbers) → IsEvent o n text legs → ⊥
 abbrev pub IsRefused : {E : Type 0} → Ops E → ℕ → Side → List ℕ → Type 0
 IsRefused o n input given = (IsDone input × IsNoEvent o n given) ⊎ ((rest : List ℕ) → IsNoEvent o n (given ++ rest))
 
-module _ {E : Type 0} (o : Ops E) (show : E → List ℕ) (m : Model) (s : Scattering) where
+module _ {E : Type 0} (o : Ops E) (show : E → List ℕ) (m : Model) (p : Process) where
   -- the bytes are one event, and this is the answer to it
   pub record IsAnswered (given : List ℕ) (a : Answer E) : Type 0 where
     pub legs : List LegNumbers
-    pub is_event : IsEvent o s.size given legs
-    pub is_answer : IsAnswer o s (feynman_rules o m (model_table o m)) no_lines (event_of o (map (incoming_of o) legs)) a
+    pub is_event : IsEvent o (length p.legs) given legs
+    pub is_answer : IsModelAnswer o m p (event_of o (map (incoming_of o) legs)) a
 
   -- with a diagram: the input gave these bytes, and the output gained the text of the answer
   abbrev pub AnswersEvent : Side → Side → List ℕ → Ending → Type 0
   AnswersEvent input out given Done = IsDone input × (a : Answer E) × IsAnswered given a × Gained out (answer_text show m 1 a)
-  AnswersEvent input out given EventsNotBuilt = IsRefused o s.size input given × IsUntouched out
+  AnswersEvent input out given EventsNotBuilt = IsRefused o (length p.legs) input given × IsUntouched out
   AnswersEvent input out given InputFault = Failed input × IsUntouched out
   AnswersEvent input out given OutFault = Failed out × IsDone input × (a : Answer E) × IsAnswered given a × GainedPrefix out (answer_text show m 1 a)
   AnswersEvent input out given _ = ⊥
@@ -50,17 +47,17 @@ HasNoAmplitude input out Done = IsUntouched input × Gained out no_amplitude
 HasNoAmplitude input out OutFault = Failed out × IsUntouched input × GainedPrefix out no_amplitude
 HasNoAmplitude input out _ = ⊥
 
-module _ {E : Type 0} (o : Ops E) (show : E → List ℕ) (m : Model) (s : Scattering) where
+module _ {E : Type 0} (o : Ops E) (show : E → List ℕ) (m : Model) (p : Process) where
   -- by the list of all diagrams
   abbrev pub EvaluatesBy : List Tree → Side → Side → Ending → Type 0
   EvaluatesBy [] input out ending = HasNoAmplitude input out ending
-  EvaluatesBy (t ∷ ts) input out ending = (given : List ℕ) × Gave input given × AnswersEvent o show m s input out given ending
+  EvaluatesBy (t ∷ ts) input out ending = (given : List ℕ) × Gave input given × AnswersEvent o show m p input out given ending
 
   -- what stands with a model and a process
   abbrev pub Evaluates : Side → Side → Ending → Type 0
-  Evaluates input out ending = (ts : List Tree) × AreDiagrams s ts × EvaluatesBy ts input out ending
+  Evaluates input out ending = (ts : List Tree) × AreDiagrams (scattering_of m p) ts × EvaluatesBy ts input out ending
 
 -- the same, or want of memory before anything was read or written
 abbrev pub EvaluatesProcess : {E : Type 0} → Ops E → (E → List ℕ) → Model → Process → Side → Side → Ending → Type 0
 EvaluatesProcess o show m p input out NoMemory = IsUntouched input × IsUntouched out
-EvaluatesProcess o show m p input out ending = Evaluates o show m (scattering_of m p) input out ending
+EvaluatesProcess o show m p input out ending = Evaluates o show m p input out ending

@@ -6,7 +6,8 @@ use Rattle.om_ring.specs.Products.{value_of}
 use Rattle.om_ring.specs.NumeralOf.{numeral_of}
 use Rattle.om_ring.specs.declared.numeral.Numeral.{Numeral}
 use Rattle.om_ring.specs.declared.numeral.NumeralFault.{NumeralFault}
-use Rattle.om_top.specs.Scan.{◌>>=◌, after_piece, behind_word, word_of}
+use Rattle.om_ring.specs.OptionSteps.{◌>>=◌}
+use Rattle.om_top.specs.Scan.{after_piece, behind_word, word_of}
 use Rattle.om_top.specs.EventText.{numbers_of}
 use Rattle.om_top.specs.declared.event_text.LegNumbers.{LegNumbers}
 

@@ -57,4 +57,5 @@ abbrev pub process_fault_text : ProcessFault → List ℕ
 process_fault_text (process.Syntax place) = at_byte (codes "syntax") place
 process_fault_text (process.Unknown place) = at_byte (codes "unknown name") place
 process_fault_text (process.Legs count) = decimal count ++ codes " legs"
+process_fault_text (process.Edge place) = at_byte (codes "edge") place
 process_fault_text process.Memory = codes "Memory"

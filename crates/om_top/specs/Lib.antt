@@ -7,6 +7,7 @@ pub mod Scan
 pub mod EventText
 pub mod EventScan
 pub mod Incoming
+pub mod NoLines
 pub mod AnswerText
 pub mod Loads
 pub mod WithModel
@@ -14,6 +15,7 @@ pub mod Input
 pub mod Choices
 pub mod TreeLists
 pub mod Shapes
+pub mod NamedEdges
 pub mod EventOf
 pub mod AnswerOf
 pub mod Evaluation
@@ -28,3 +30,4 @@ pub mod Stages
 pub mod Limits
 pub mod Complete
 pub mod Causes
+pub mod Calls

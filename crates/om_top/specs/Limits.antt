@@ -1,7 +1,8 @@
 -- How much a call is handed.
-use Rattle.std.specs.Prelude.{ℕ, ◌<◌, ◌^◌, length, All, List}
+use Rattle.std.specs.Prelude.{ℕ, ◌<◌, length, All, List}
+use Rattle.om_top.specs.declared.limits.TheConstants.{WORD_LIMIT}
 
--- fewer than 2^31 words of fewer than 2^31 bytes each
+-- how many words there are, and how many bytes each has
 pub record IsWithinLimits (words : List (List ℕ)) : Type 0 where
-  pub few : length words < 2 ^ 31
-  pub short : All (λ w. length w < 2 ^ 31) words
+  pub few : length words < WORD_LIMIT
+  pub short : All (λ w. length w < WORD_LIMIT) words

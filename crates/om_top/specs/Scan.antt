@@ -2,12 +2,6 @@
 use Rattle.std.specs.Prelude.{ℕ, ◌≡◌, ◌==◌, ◌&&◌, not, if◌then◌else◌, List, [], ◌∷◌, take, drop, Bool, Option, Some, None}
 use Rattle.std.specs.List.{prefix_len}
 
-infixl 10 ◌>>=◌
--- one thing after another, where there is a first
-abbrev pub ◌>>=◌ : {A B : Type 0} → Option A → (A → Option B) → Option B
-None >>= f = None
-(Some x) >>= f = f x
-
 -- what follows a piece that a text begins with
 abbrev pub after_piece : List ℕ → List ℕ → Option (List ℕ)
 after_piece [] text = Some text

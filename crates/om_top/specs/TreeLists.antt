@@ -1,12 +1,13 @@
 -- The lists of all trees over given legs from which a given field goes upwards.
-use Rattle.std.specs.Prelude.{◌≡◌, ℕ, zero, suc, ◌-◌, List, [], ◌∷◌, ◌++◌, map, length, Bool, true, cond, ◌&&◌, ◌||◌, eqb, ltb, ◌↔◌}
+use Rattle.std.specs.Prelude.{◌≡◌, ℕ, zero, suc, ◌-◌, List, [], ◌∷◌, ◌++◌, map, filter, length, Bool, true, cond, ◌&&◌, ◌||◌, eqb, ltb, ◌↔◌}
 use Rattle.std.specs.List.{flat_map}
 use Rattle.om_ring.specs.Members.{In, Different}
 use Rattle.om_model.specs.Theory.{Theory, Scattering}
 use Rattle.om_model.specs.Tree.{Tree, Branches}
 use Rattle.om_model.specs.Tree.Tree.{leaf, join}
 use Rattle.om_model.specs.Tree.Branches.{none, and}
-use Rattle.om_model.specs.Diagram.{upto, is_diagram}
+use Rattle.om_model.specs.Diagram.{upto, all_in}
+use Rattle.om_model.specs.Diagrams.{counts, has_edge}
 use Rattle.om_top.specs.declared.interactions.Interaction.{Interaction}
 use Rattle.om_top.specs.Choices.{below, splits, orders_of}
 
@@ -62,11 +63,19 @@ unfoldable pub trees_over : Scattering → ℕ → List ℕ → ℕ → List Tre
 trees_over s zero ks f = leaves_over s ks f
 trees_over s (suc d) ks f = leaves_over s ks f ++ joins_over s (trees_over s d) ks f
 
--- the diagrams: what hangs from the last leg
+-- what hangs from the last leg, whatever edges are named
+unfoldable pub hanging_list : Scattering → List Tree
+hanging_list s = joins_over s (trees_over s s.size) (upto (s.size - 1)) (s.theory.anti (s.field s.size))
+
+-- a tree has every named edge
+abbrev pub has_edges : Scattering → Tree → Bool
+has_edges s t = all_in (λ set. has_edge s set t) s.edges
+
+-- the diagrams
 unfoldable pub diagram_list : Scattering → List Tree
-diagram_list s = joins_over s (trees_over s s.size) (upto (s.size - 1)) (s.theory.anti (s.field s.size))
+diagram_list s = filter (has_edges s) (hanging_list s)
 
 -- these are all diagrams, each once
 pub record AreAll (s : Scattering) (ts : List Tree) : Type 0 where
   pub different : Different ts
-  pub members : (t : Tree) → In t ts ↔ (is_diagram s t ≡ true)
+  pub members : (t : Tree) → In t ts ↔ (counts s t ≡ true)

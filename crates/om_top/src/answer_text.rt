@@ -1,10 +1,11 @@
 //! The text of the answer to an event.
 ghost use Rattle.std.specs.Prelude.{◌≡◌, ◌+◌, ◌*◌, ◌≤◌, ◌++◌, [], length, decimal, codes};
+ghost use Rattle.om_ring.specs.declared.line.TheConstants.{LINE_BYTES};
 ghost use Rattle.om_top.specs.AnswerOf.{answer_of};
-ghost use Rattle.om_top.specs.AnswerText.{set_text, field_name, answer_text, IsShort};
+ghost use Rattle.om_top.specs.AnswerText.{set_text, answer_text, IsShort};
 
 use crate::answer::Answer;
-use om_model::Model;
+use om_model::{Model, field_name};
 use om_ring::{Line, Ring};
 
 /// Appends the line of the answer to event number `number`. Where there is no diagram, there is no line.
@@ -29,7 +30,7 @@ pub(crate) fn push_answer<R: Ring>(
             line.push(b"pole ");
             push_set(edge.legs(), line);
             line.push(b" ");
-            push_field(model, edge.field(), line);
+            line.push(field_name(model.particles.as_slice(), edge.field()));
             line.push(b"\n");
         }
         Answer::Values(Some(value)) => {
@@ -54,7 +55,7 @@ fn push_start(number: u64, line: &mut Line)
 
 /// Appends the legs, joined by plus signs.
 fn push_set(legs: &[u8], line: &mut Line)
-    requires { length line.old + 21 * length legs.now ≤ 512 }
+    requires { length line.old + 21 * length legs.now ≤ LINE_BYTES }
     ensures set { line.new ≡ line.old ++ set_text legs.now }
     ensures short { length line.new ≤ length line.old + 21 * length legs.now }
 {
@@ -66,23 +67,4 @@ fn push_set(legs: &[u8], line: &mut Line)
         line.push(b"+");
         line.push_number(u64::from(*leg));
     }
-}
-
-/// Appends the name of a field: that of a particle or of its antiparticle.
-fn push_field(model: &Model, field: u16, line: &mut Line)
-    requires { length line.old + 15 ≤ 512 }
-    ensures name { line.new ≡ line.old ++ field_name model.now field }
-    ensures short { length line.new ≤ length line.old + 15 }
-{
-    let row = field as usize / 2;
-    if row >= model.particles.len() {
-        return;
-    }
-    let particle = model.particles.at(row);
-    let name = if field % 2 == 0 {
-        &particle.name
-    } else {
-        &particle.anti
-    };
-    line.push(name.bytes());
 }

@@ -1,5 +1,6 @@
 //! `check` tells what stands in a model.
-ghost use Rattle.std.specs.Prelude.{◌≡◌, []};
+ghost use Rattle.std.specs.Prelude.{◌≡◌, ℕ, ◌+◌, ◌*◌, ◌≤◌, []};
+ghost use Rattle.om_top.specs.Calls.{CheckMayCall};
 ghost use Rattle.om_top.specs.CheckRan.{CheckRan, check_text};
 ghost use Rattle.om_top.specs.Outside.{side};
 
@@ -20,9 +21,11 @@ pub(crate) fn check<R: Ring<Mark = L>, F: Folder, O: Sink, L>(
     out: &mut O,
     steps: &mut Steps<L>,
 ) -> Ending
-    ensures { let file = side (λ f. F.file f name.now) (λ f. F.faults f name.now) files.old files.new in
+    ensures ran { let file = side (λ f. F.file f name.now) (λ f. F.faults f name.now) files.old files.new in
         let out = side O.written O.faults out.old out.new in
         CheckRan (R.ops ring.now) file out result }
+    ensures calls { let file = side (λ f. F.file f name.now) (λ f. F.faults f name.now) files.old files.new in
+        (n : ℕ) × CheckMayCall file n × (steps.new ≤ steps.old + n * R.cost ring.now) }
 {
     let model = match load_model(alloc, ring, files, name, steps) {
         Ok(model) => model,

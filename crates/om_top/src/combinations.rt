@@ -3,7 +3,7 @@ ghost use Rattle.std.specs.Prelude.{◌≡◌, ℕ, ◌≤◌, [], ◌∷◌, �
 ghost use Rattle.om_model.specs.Diagram.{times_in, all_in, same_numbers, upto};
 ghost use Rattle.om_top.specs.Choices.{stands_in, with_leg, splits, once, words, orders_of};
 
-use crate::lists::{copy_of, with_first};
+use crate::lists::with_first;
 use om_ring::{List, NoMemory};
 use std::alloc::Global;
 
@@ -58,10 +58,10 @@ fn with_leg(alloc: Global, leg: u8, split: &Split, found: &mut List<Split>) -> R
 {
     found.push(Split {
         part: with_first(alloc, leg, split.part.as_slice())?,
-        others: copy_of(alloc, split.others.as_slice())?,
+        others: split.others.copy(alloc)?,
     })?;
     found.push(Split {
-        part: copy_of(alloc, split.part.as_slice())?,
+        part: split.part.copy(alloc)?,
         others: with_first(alloc, leg, split.others.as_slice())?,
     })
 }
@@ -167,7 +167,7 @@ pub(crate) fn orders_of(alloc: Global, fields: &[u16]) -> Result<List<List<u16>>
     let mut found = List::new(alloc);
     for word in words.as_slice() {
         if same_fields(word.as_slice(), fields) {
-            found.push(copy_of(alloc, word.as_slice())?)?;
+            found.push(word.copy(alloc)?)?;
         }
     }
     Ok(found)

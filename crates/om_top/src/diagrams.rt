@@ -1,6 +1,7 @@
 //! The list of all diagrams.
 ghost use Rattle.std.specs.Prelude.{◌≡◌, ◌≤◌, [], ◌∷◌, ◌++◌, map, length, OnOk, IfOk};
 ghost use Rattle.om_model.specs.Model.{scattering_of};
+ghost use Rattle.om_legs.specs.declared.leg_set.TheConstants.{MOST_LEGS};
 ghost use Rattle.om_top.specs.Shapes.{joined, joined_pairs, ListsDiagrams};
 ghost use Rattle.om_top.specs.Slots.{HasThreeOrFourSlots};
 
@@ -8,7 +9,8 @@ use crate::combinations::legs_up_to;
 use crate::edge_name::EdgeName;
 use crate::interactions::interactions;
 use crate::listing::Listing;
-use crate::lists::{append, copy_of};
+use crate::lists::append;
+use crate::named_edges::with_edges;
 use om_model::{Model, Process};
 use om_ring::{List, NoMemory};
 use std::alloc::Global;
@@ -27,9 +29,9 @@ pub struct Diagrams {
     pub(crate) list: List<Diagram>,
 }
 
-/// All diagrams of a process over a model whose vertices have three or four slots each.
+/// All diagrams of a process of at most 12 legs over a model whose vertices have three or four slots each.
 pub fn list_diagrams(alloc: Global, model: &Model, process: &Process) -> Result<Diagrams, NoMemory>
-    requires legs { length process.now.legs ≤ 64 }
+    requires legs { length process.now.legs ≤ MOST_LEGS }
     requires slots { HasThreeOrFourSlots model.now }
     ensures { IfOk result (ListsDiagrams (scattering_of model.now process.now)) }
 {
@@ -42,7 +44,9 @@ pub fn list_diagrams(alloc: Global, model: &Model, process: &Process) -> Result<
         legs: &legs,
         interactions: &interactions,
     };
-    let list = listing.diagrams()?;
+    let hanging = listing.diagrams()?;
+    let edges = process.edges.as_slice();
+    let list = with_edges(alloc, process.legs.len(), edges, hanging.as_slice())?;
     Ok(Diagrams { legs, list })
 }
 
@@ -60,7 +64,7 @@ fn append_names(alloc: Global, to: &mut List<EdgeName>, names: &[EdgeName]) -> R
 fn joined(alloc: Global, first: &Diagram, rest: &Diagram) -> Result<Diagram, NoMemory>
     ensures { IfOk result (λ d. d ≡ joined first.now rest.now) }
 {
-    let mut vertices = copy_of(alloc, first.vertices.as_slice())?;
+    let mut vertices = first.vertices.copy(alloc)?;
     append(&mut vertices, rest.vertices.as_slice())?;
     let mut edges = List::new(alloc);
     append_names(alloc, &mut edges, first.edges.as_slice())?;
@@ -107,6 +111,16 @@ impl Diagram {
             vertices: List::new(alloc),
             edges: List::new(alloc),
         }
+    }
+
+    /// The same parts.
+    pub(crate) fn copy(&self, alloc: Global) -> Result<Diagram, NoMemory>
+        ensures { IfOk result (λ d. d ≡ self.now) }
+    {
+        let vertices = self.vertices.copy(alloc)?;
+        let mut edges = List::new(alloc);
+        append_names(alloc, &mut edges, self.edges.as_slice())?;
+        Ok(Diagram { vertices, edges })
     }
 
     /// One vertex and some edges above it.

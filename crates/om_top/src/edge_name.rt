@@ -2,7 +2,6 @@
 ghost use Rattle.std.specs.Prelude.{◌≡◌, ◌<◌, ◌^◌, IfOk};
 ghost use Rattle.om_model.specs.Propagator.{set_number, name_lt};
 
-use crate::lists::copy_of;
 use om_ring::{List, NoMemory};
 use std::alloc::Global;
 use std::marker::Model;
@@ -53,7 +52,7 @@ impl EdgeName {
     pub(crate) fn copy(&self, alloc: Global) -> Result<EdgeName, NoMemory>
         ensures { IfOk result (λ e. e ≡ self.now) }
     {
-        let legs = copy_of(alloc, self.legs.as_slice())?;
+        let legs = self.legs.copy(alloc)?;
         Ok(EdgeName {
             legs,
             field: self.field,

@@ -1,11 +1,16 @@
 //! `eval` answers an event.
-ghost use Rattle.std.specs.Prelude.{◌≡◌, ◌≤◌, All, length};
+ghost use Rattle.std.specs.Prelude.{◌≡◌, ℕ, ◌+◌, ◌*◌, ◌<◌, ◌≤◌, All, length, List};
+ghost use Rattle.om_model.specs.Diagrams.{AreDiagrams};
+ghost use Rattle.om_model.specs.Model.{scattering_of};
 ghost use Rattle.om_model.specs.Rules.{IsAccepted};
 ghost use Rattle.om_model.specs.ScalarRules.{HasColourlessScalars};
+ghost use Rattle.om_model.specs.Tree.{Tree};
 ghost use Rattle.om_top.specs.AnswerOf.{answer_of};
 ghost use Rattle.om_top.specs.AnswerText.{answer_text, IsShort};
+ghost use Rattle.om_top.specs.Calls.{EvalMayCall, evaluation_calls, legs_calls};
 ghost use Rattle.om_top.specs.Eval.{EvaluatesProcess};
 ghost use Rattle.om_top.specs.EvalRan.{EvalRan};
+ghost use Rattle.om_top.specs.declared.limits.TheConstants.{MOST_EVALUATED_LEGS, WORD_LIMIT};
 ghost use Rattle.om_top.specs.Incoming.{HasPlaces};
 ghost use Rattle.om_top.specs.Outside.{side};
 ghost use Rattle.om_top.specs.Stages.{ReadsInput, Writes};
@@ -38,10 +43,13 @@ pub(crate) fn eval<R: Ring<Mark = L>, F: Folder, S: Source, O: Sink, L>(
     out: &mut O,
     steps: &mut Steps<L>,
 ) -> Ending
-    ensures { let file = side (λ f. F.file f name.now) (λ f. F.faults f name.now) files.old files.new in
+    requires { length process.now < WORD_LIMIT }
+    ensures ran { let file = side (λ f. F.file f name.now) (λ f. F.faults f name.now) files.old files.new in
         let input = side S.left S.faults input.old input.new in
         let out = side O.written O.faults out.old out.new in
         EvalRan (R.ops ring.now) (R.text ring.now) file process.now input out result }
+    ensures calls { let file = side (λ f. F.file f name.now) (λ f. F.faults f name.now) files.old files.new in
+        (n : ℕ) × EvalMayCall (R.ops ring.now) file process.now n × (steps.new ≤ steps.old + n * R.cost ring.now) }
 {
     let model = match load_model(alloc, ring, files, name, steps) {
         Ok(model) => model,
@@ -68,10 +76,11 @@ pub(crate) fn eval_process<R: Ring<Mark = L>, S: Source, O: Sink, L>(
     out: &mut O,
     steps: &mut Steps<L>,
 ) -> Ending
-    requires few { length process.now.legs ≤ 5 }
+    requires few { length process.now.legs ≤ MOST_EVALUATED_LEGS }
     requires accepted { IsAccepted (R.ops ring.now) model.now }
     requires scalars { HasColourlessScalars model.now }
-    ensures { EvaluatesProcess (R.ops ring.now) (R.text ring.now) model.now process.now (side S.left S.faults input.old input.new) (side O.written O.faults out.old out.new) result }
+    ensures ran { EvaluatesProcess (R.ops ring.now) (R.text ring.now) model.now process.now (side S.left S.faults input.old input.new) (side O.written O.faults out.old out.new) result }
+    ensures calls { (ts : List Tree) → AreDiagrams (scattering_of model.now process.now) ts → steps.new ≤ steps.old + evaluation_calls model.now process.now ts * R.cost ring.now }
 {
     let Ok(mut prepared) = prepare(alloc, ring, model, process, steps) else {
         return Ending::NoMemory;
@@ -95,9 +104,10 @@ fn read_input<R: Ring<Mark = L>, S: Source, L>(
     event: &mut [Incoming<R::E>],
     steps: &mut Steps<L>,
 ) -> Result<(), Ending>
-    requires few { length event.old ≤ 5 }
+    requires few { length event.old ≤ MOST_EVALUATED_LEGS }
     requires places { All HasPlaces event.old }
-    ensures { ReadsInput (R.ops ring.now) (length event.old) (side S.left S.faults input.old input.new) event.new result }
+    ensures legs { ReadsInput (R.ops ring.now) (length event.old) (side S.left S.faults input.old input.new) event.new result }
+    ensures calls { steps.new ≤ steps.old + legs_calls (length event.old) * R.cost ring.now }
 {
     let mut buffer = [0; MOST_BYTES];
     let len = match read_all(input, &mut buffer) {

@@ -1,16 +1,19 @@
 //! The answer to an event.
-ghost use Rattle.std.specs.Prelude.{◌≡◌, ℕ, ◌+◌, ◌<◌, map, [], IsTrue, ◌↔◌, true};
+ghost use Rattle.std.specs.Prelude.{◌≡◌, ℕ, ◌+◌, ◌*◌, ◌<◌, ◌≤◌, length, map, IsTrue, ◌↔◌, true};
+ghost use Rattle.std.specs.List.{sum_by};
 ghost use Rattle.std.specs.Option.{option_copied};
 ghost use Rattle.om_ring.specs.Sums.{sum_over, product_list};
 ghost use Rattle.om_model.specs.Theory.{Scattering};
 ghost use Rattle.om_model.specs.Tree.{Tree};
-ghost use Rattle.om_model.specs.Diagram.{is_diagram};
+ghost use Rattle.om_model.specs.Diagrams.{counts};
 ghost use Rattle.om_model.specs.Event.{momentum_of};
-ghost use Rattle.om_model.specs.Propagator.{difference, square};
+ghost use Rattle.om_lorentz.specs.Propagators.{momentum_square};
+ghost use Rattle.om_model.specs.Entries.{four_of};
 ghost use Rattle.om_model.specs.ScalarRules.{scalar_rules};
-ghost use Rattle.om_model.specs.Lines.{no_lines};
 ghost use Rattle.om_model.specs.Answer.{IsAnswer};
 ghost use Rattle.om_top.specs.AnswerOf.{answer_of};
+ghost use Rattle.om_top.specs.Calls.{answer_calls, edge_calls, pole_calls, search_calls, value_calls};
+ghost use Rattle.om_top.specs.NoLines.{no_lines};
 ghost use Rattle.om_top.specs.EventOf.{AddUp, entry_or_zero, event_of, table_of};
 ghost use Rattle.om_top.specs.Shapes.{ListsDiagrams};
 ghost use Rattle.om_top.specs.Evaluation.{wave_product, vertex_factor, edge_denominator, edge_factor, shape_value, comes_before, lesser_pole, least_pole, least_pole_of};
@@ -61,8 +64,9 @@ fn momentum_of<R: Ring<Mark = L>, L>(
     steps: &mut Steps<L>,
 ) -> R::E
     requires { mu < 4 }
-    ensures { let o = R.ops ring.now in
+    ensures value { let o = R.ops ring.now in
         result ≡ momentum_of o (event_of o incoming.now) legs.now mu }
+    ensures calls { steps.new ≤ steps.old + length legs.now * R.cost ring.now }
 {
     let mut total = ring.zero();
     for leg in legs {
@@ -79,8 +83,9 @@ fn wave_product<R: Ring<Mark = L>, L>(
     legs: &[u8],
     steps: &mut Steps<L>,
 ) -> R::E
-    ensures { let o = R.ops ring.now in
+    ensures value { let o = R.ops ring.now in
         result ≡ wave_product o (event_of o incoming.now) legs.now }
+    ensures calls { steps.new ≤ steps.old + length legs.now * R.cost ring.now }
 {
     let mut product = ring.one();
     for leg in legs {
@@ -92,7 +97,8 @@ fn wave_product<R: Ring<Mark = L>, L>(
 
 /// `x - y`.
 fn difference<R: Ring<Mark = L>, L>(ring: &R, x: R::E, y: R::E, steps: &mut Steps<L>) -> R::E
-    ensures { result ≡ difference (R.ops ring.now) x y }
+    ensures value { let o = R.ops ring.now in result ≡ o.plus x (o.minus y) }
+    ensures calls { steps.new ≤ steps.old + 2 * R.cost ring.now }
 {
     let opposite = ring.neg(y, steps);
     ring.add(x, opposite, steps)
@@ -100,7 +106,8 @@ fn difference<R: Ring<Mark = L>, L>(ring: &R, x: R::E, y: R::E, steps: &mut Step
 
 /// `x - y * y`.
 fn less_square<R: Ring<Mark = L>, L>(ring: &R, x: R::E, y: R::E, steps: &mut Steps<L>) -> R::E
-    ensures { let o = R.ops ring.now in result ≡ difference o x (o.times y y) }
+    ensures value { let o = R.ops ring.now in result ≡ o.plus x (o.minus (o.times y y)) }
+    ensures calls { steps.new ≤ steps.old + 3 * R.cost ring.now }
 {
     let square = ring.mul(y, y, steps);
     difference(ring, x, square, steps)
@@ -113,8 +120,9 @@ fn square_of<R: Ring<Mark = L>, L>(
     legs: &[u8],
     steps: &mut Steps<L>,
 ) -> R::E
-    ensures { let o = R.ops ring.now in
-        result ≡ square o (momentum_of o (event_of o incoming.now) legs.now) }
+    ensures value { let o = R.ops ring.now in
+        result ≡ momentum_square o (four_of (momentum_of o (event_of o incoming.now) legs.now)) }
+    ensures calls { steps.new ≤ steps.old + (4 * length legs.now + 10) * R.cost ring.now }
 {
     let p0 = momentum_of(ring, incoming, legs, 0, steps);
     let p1 = momentum_of(ring, incoming, legs, 1, steps);
@@ -134,8 +142,9 @@ fn denominator<R: Ring<Mark = L>, L>(
     edge: &EdgeName,
     steps: &mut Steps<L>,
 ) -> R::E
-    ensures { let o = R.ops ring.now in
+    ensures value { let o = R.ops ring.now in
         result ≡ edge_denominator o table.now (event_of o incoming.now) edge.now }
+    ensures calls { steps.new ≤ steps.old + (4 * length edge.now.legs + 16) * R.cost ring.now }
 {
     let particle = edge.field() as usize / 2;
     let mass = entry_or_zero(ring, table.masses.as_slice(), particle);
@@ -143,8 +152,8 @@ fn denominator<R: Ring<Mark = L>, L>(
     let square = square_of(ring, incoming, edge.legs(), steps);
     let mass_square = ring.mul(mass, mass, steps);
     let shifted = difference(ring, square, mass_square, steps);
-    let mass_width = ring.mul(mass, width, steps);
-    let damping = ring.mul(ring.imag(), mass_width, steps);
+    let imaginary_mass = ring.mul(ring.imag(), mass, steps);
+    let damping = ring.mul(imaginary_mass, width, steps);
     ring.add(shifted, damping, steps)
 }
 
@@ -156,8 +165,9 @@ fn edge_factor<R: Ring<Mark = L>, L>(
     edge: &EdgeName,
     steps: &mut Steps<L>,
 ) -> R::E
-    ensures { let o = R.ops ring.now in
+    ensures value { let o = R.ops ring.now in
         result ≡ edge_factor o table.now (event_of o incoming.now) edge.now }
+    ensures calls { steps.new ≤ steps.old + (4 * length edge.now.legs + 19) * R.cost ring.now }
 {
     let denominator = denominator(ring, table, incoming, edge, steps);
     let inverse = match ring.inverse(denominator, steps) {
@@ -176,7 +186,8 @@ fn vertex_factor<R: Ring<Mark = L>, L>(
     row: usize,
     steps: &mut Steps<L>,
 ) -> R::E
-    ensures { result ≡ vertex_factor (R.ops ring.now) table.now row }
+    ensures value { result ≡ vertex_factor (R.ops ring.now) table.now row }
+    ensures calls { steps.new ≤ steps.old + 1 * R.cost ring.now }
 {
     let factor = entry_or_zero(ring, table.factors.as_slice(), row);
     ring.mul(ring.imag(), factor, steps)
@@ -189,8 +200,9 @@ fn vertex_product<R: Ring<Mark = L>, L>(
     vertices: &[usize],
     steps: &mut Steps<L>,
 ) -> R::E
-    ensures { let o = R.ops ring.now in
+    ensures value { let o = R.ops ring.now in
         result ≡ product_list o (map (vertex_factor o table.now) vertices.now) }
+    ensures calls { steps.new ≤ steps.old + (2 * length vertices.now) * R.cost ring.now }
 {
     let mut product = ring.one();
     for vertex in vertices {
@@ -208,8 +220,9 @@ fn edge_product<R: Ring<Mark = L>, L>(
     edges: &[EdgeName],
     steps: &mut Steps<L>,
 ) -> R::E
-    ensures { let o = R.ops ring.now in
+    ensures value { let o = R.ops ring.now in
         result ≡ product_list o (map (edge_factor o table.now (event_of o incoming.now)) edges.now) }
+    ensures calls { steps.new ≤ steps.old + sum_by edge_calls edges.now * R.cost ring.now }
 {
     let mut product = ring.one();
     for edge in edges {
@@ -227,8 +240,9 @@ fn value_of<R: Ring<Mark = L>, L>(
     diagram: &Diagram,
     steps: &mut Steps<L>,
 ) -> R::E
-    ensures { let o = R.ops ring.now in
+    ensures value { let o = R.ops ring.now in
         result ≡ shape_value o table.now (event_of o incoming.now) diagram.now }
+    ensures calls { steps.new ≤ steps.old + (2 * length diagram.now.vertices + sum_by edge_calls diagram.now.edges + 1) * R.cost ring.now }
 {
     let vertices = vertex_product(ring, table, diagram.vertices.as_slice(), steps);
     let edges = edge_product(ring, table, incoming, diagram.edges.as_slice(), steps);
@@ -243,8 +257,9 @@ fn sum_of_values<R: Ring<Mark = L>, L>(
     diagrams: &[Diagram],
     steps: &mut Steps<L>,
 ) -> R::E
-    ensures { let o = R.ops ring.now in
+    ensures value { let o = R.ops ring.now in
         result ≡ sum_over o diagrams.now (shape_value o table.now (event_of o incoming.now)) }
+    ensures calls { steps.new ≤ steps.old + sum_by value_calls diagrams.now * R.cost ring.now }
 {
     let mut total = ring.zero();
     for diagram in diagrams {
@@ -273,8 +288,9 @@ fn lesser_pole<'a, R: Ring<Mark = L>, L>(
     edge: &'a EdgeName,
     steps: &mut Steps<L>,
 ) -> Option<&'a EdgeName>
-    ensures { let o = R.ops ring.now in
+    ensures value { let o = R.ops ring.now in
         option_copied result ≡ lesser_pole o table.now (event_of o incoming.now) (option_copied found.entry) edge.now }
+    ensures calls { steps.new ≤ steps.old + pole_calls edge.now * R.cost ring.now }
 {
     let denominator = denominator(ring, table, incoming, edge, steps);
     let is_pole = ring.inverse(denominator, steps).is_none();
@@ -294,8 +310,9 @@ fn least_pole<'a, R: Ring<Mark = L>, L>(
     edges: &'a [EdgeName],
     steps: &mut Steps<L>,
 ) -> Option<&'a EdgeName>
-    ensures { let o = R.ops ring.now in
+    ensures value { let o = R.ops ring.now in
         option_copied result ≡ least_pole o table.now (event_of o incoming.now) (option_copied found.entry) edges.now }
+    ensures calls { steps.new ≤ steps.old + sum_by pole_calls edges.now * R.cost ring.now }
 {
     let mut least = found;
     for edge in edges {
@@ -312,8 +329,9 @@ fn least_pole_of<'a, R: Ring<Mark = L>, L>(
     diagrams: &'a [Diagram],
     steps: &mut Steps<L>,
 ) -> Option<&'a EdgeName>
-    ensures { let o = R.ops ring.now in
+    ensures value { let o = R.ops ring.now in
         option_copied result ≡ least_pole_of o table.now (event_of o incoming.now) None diagrams.now }
+    ensures calls { steps.new ≤ steps.old + sum_by search_calls diagrams.now * R.cost ring.now }
 {
     let mut least = None;
     for diagram in diagrams {
@@ -336,8 +354,9 @@ fn balances<R: Ring<Mark = L>, L>(
     legs: &[u8],
     steps: &mut Steps<L>,
 ) -> bool
-    ensures { let o = R.ops ring.now in
+    ensures value { let o = R.ops ring.now in
         IsTrue result ↔ AddUp o (event_of o incoming.now) legs.now }
+    ensures calls { steps.new ≤ steps.old + (4 * length legs.now) * R.cost ring.now }
 {
     for mu in 0..4 {
         let total = momentum_of(ring, incoming, legs, mu, steps);
@@ -349,10 +368,10 @@ fn balances<R: Ring<Mark = L>, L>(
 }
 
 impl Diagrams {
-    /// Whether the process has no diagram.
+    /// Whether no diagram counts.
     pub fn is_empty(&self) -> bool
         ensures { (s : Scattering) → ListsDiagrams s self.now
-            → IsTrue result ↔ ((t : Tree) → is_diagram s t ≡ true → ⊥) }
+            → IsTrue result ↔ ((t : Tree) → counts s t ≡ true → ⊥) }
     {
         self.list.is_empty()
     }
@@ -367,9 +386,10 @@ impl Diagrams {
         incoming: &[Incoming<R::E>],
         steps: &mut Steps<L>,
     ) -> Answer<'_, R::E>
-        ensures { let o = R.ops ring.now in
+        ensures value { let o = R.ops ring.now in
             (s : Scattering) → ListsDiagrams s self.now
             → IsAnswer o s (scalar_rules o (table_of o table.now)) no_lines (event_of o incoming.now) (answer_of result) }
+        ensures calls { steps.new ≤ steps.old + answer_calls (length self.now.legs) self.now.list * R.cost ring.now }
     {
         let (legs, diagrams) = (self.legs.as_slice(), self.list.as_slice());
         if !balances(ring, incoming, legs, steps) {

@@ -264,7 +264,10 @@ fn process(alloc: Global, fields: &[u16]) -> Option<Process> {
         })
         .ok()?;
     }
-    Some(Process { legs })
+    Some(Process {
+        legs,
+        edges: List::new(alloc),
+    })
 }
 
 fn check_case(rt: &impl Abort, alloc: Global, case: &Case) -> Result<(), Fail> {

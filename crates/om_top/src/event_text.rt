@@ -1,6 +1,7 @@
 //! The text of one event of scalar legs.
-ghost use Rattle.std.specs.Prelude.{◌≡◌, ◌+◌, ◌<◌, ◌^◌, MatchOption, IsSome, IsNone, length, OnSome, Some, None, map, All, true, false};
+ghost use Rattle.std.specs.Prelude.{◌≡◌, ◌+◌, ◌*◌, ◌≤◌, ◌<◌, ◌^◌, MatchOption, IsSome, IsNone, length, OnSome, Some, None, map, All, true, false};
 ghost use Rattle.std.specs.Prelude.{List as Members};
+ghost use Rattle.om_top.specs.Calls.{legs_calls};
 ghost use Rattle.om_top.specs.EventScan.{are_valued, event_in, front_leg, front_leg_number, front_number, front_numbers};
 ghost use Rattle.om_top.specs.EventText.{numbers_of, number_value};
 ghost use Rattle.om_top.specs.Incoming.{incoming_of, HasPlaces};
@@ -71,6 +72,7 @@ fn set_values<R: Ring<Mark = L>, L>(
     ensures values { MatchOption result (are_valued (R.ops ring.now) numerals.now ≡ false)
         (λ _. (are_valued (R.ops ring.now) numerals.now ≡ true) × (places.new ≡ map (number_value (R.ops ring.now)) numerals.now)) }
     ensures size { length places.new ≡ length places.old }
+    ensures calls { steps.new ≤ steps.old + (4 * length numerals.now) * R.cost ring.now }
 {
     for (place, numeral) in numerals.iter().enumerate() {
         let value = value_of(ring, numeral, steps)?;
@@ -90,6 +92,7 @@ fn set_incoming<R: Ring<Mark = L>, L>(
     ensures value { MatchOption result (are_valued (R.ops ring.now) (numbers_of leg.now) ≡ false)
         (λ _. (are_valued (R.ops ring.now) (numbers_of leg.now) ≡ true) × (incoming.new ≡ incoming_of (R.ops ring.now) leg.now)) }
     ensures places { HasPlaces incoming.new }
+    ensures calls { steps.new ≤ steps.old + 20 * R.cost ring.now }
 {
     set_values(ring, &leg.momentum, &mut incoming.momentum, steps)?;
     set_values(ring, &[leg.wave], &mut incoming.wave, steps)
@@ -105,8 +108,9 @@ pub(crate) fn read_event<R: Ring<Mark = L>, L>(
     steps: &mut Steps<L>,
 ) -> Option<()>
     requires { All HasPlaces event.old }
-    ensures { MatchOption result (event_in (R.ops ring.now) (length event.old) text.now ≡ None)
+    ensures legs { MatchOption result (event_in (R.ops ring.now) (length event.old) text.now ≡ None)
         (λ _. (legs : Members LegNumbers) × (event_in (R.ops ring.now) (length event.old) text.now ≡ Some legs) × (event.new ≡ map (incoming_of (R.ops ring.now)) legs)) }
+    ensures calls { steps.new ≤ steps.old + legs_calls (length event.old) * R.cost ring.now }
 {
     let mut text = Cursor::new(text);
     for k in 0..event.len() {

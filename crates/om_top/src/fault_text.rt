@@ -95,6 +95,7 @@ pub(crate) fn push_process_fault(fault: ProcessFault, line: &mut Line)
             line.push_number(u64::from(count));
             line.push(b" legs");
         }
+        ProcessFault::Edge(place) => push_at_byte(b"edge", place, line),
         ProcessFault::Memory => line.push(b"Memory"),
     }
 }

@@ -5,7 +5,6 @@ ghost use Rattle.om_top.specs.Slots.{HasThreeOrFourSlots};
 ghost use Rattle.om_top.specs.TreeLists.{interactions_at, interactions_of, interactions as every_interaction};
 
 use crate::combinations::orders_of;
-use crate::lists::copy_of;
 use om_model::{Model, colour_row};
 use om_ring::{List, NoMemory};
 use std::alloc::Global;
@@ -48,7 +47,7 @@ fn interactions_at(
         found.push(Interaction {
             vertex,
             choice,
-            fields: copy_of(alloc, order.as_slice())?,
+            fields: order.copy(alloc)?,
         })?;
     }
     Ok(())

@@ -23,6 +23,7 @@ mod listing;
 mod lists;
 mod message;
 mod model_file;
+mod named_edges;
 mod prepared;
 mod process;
 mod top;

@@ -1,6 +1,7 @@
 //! Words that are too many or too long.
-ghost use Rattle.std.specs.Prelude.{◌≡◌, ◌<◌, ◌^◌, ◌↔◌, All, IsTrue, length, map, string_bytes};
+ghost use Rattle.std.specs.Prelude.{◌≡◌, ◌<◌, ◌↔◌, All, IsTrue, length, map, string_bytes};
 ghost use Rattle.om_top.specs.declared.ending.Ending.TheVariants as ending;
+ghost use Rattle.om_top.specs.declared.limits.TheConstants.{WORD_LIMIT};
 ghost use Rattle.om_top.specs.Limits.{IsWithinLimits};
 ghost use Rattle.om_top.specs.Message.{Told};
 ghost use Rattle.om_top.specs.Outside.{side};
@@ -9,21 +10,27 @@ use crate::ending::{Ending, status};
 use crate::message::report;
 use om_io::Sink;
 
-/// More words, or bytes of a word, than a run takes.
-const LIMIT: usize = 1 << 31;
+/// The most bytes of the file of a model.
+pub const MOST_FILE_BYTES: u64 = 1_048_576;
 
-/// Whether [`run`](crate::run) takes the words: they are fewer than 2^31, and each has fewer bytes than that.
+/// The most legs of a process whose events are evaluated so far.
+pub const MOST_EVALUATED_LEGS: usize = 5;
+
+/// More words, or bytes of a word, than a run takes: 2^31.
+pub const WORD_LIMIT: usize = 1 << 31;
+
+/// Whether [`run`](crate::run) takes the words: they are fewer than `WORD_LIMIT`, and each has fewer bytes than that.
 pub fn within_limits(words: &[String]) -> bool
     ensures { IsTrue result ↔ IsWithinLimits (map (λ w. string_bytes w) words.now) }
 {
-    words.len() < LIMIT && are_short(words)
+    words.len() < WORD_LIMIT && are_short(words)
 }
 
 /// Whether each word is short enough.
 fn are_short(words: &[String]) -> bool
-    ensures { IsTrue result ↔ All (λ w. length (string_bytes w) < 2 ^ 31) words.now }
+    ensures { IsTrue result ↔ All (λ w. length (string_bytes w) < WORD_LIMIT) words.now }
 {
-    words.iter().all(|word| word.len() < LIMIT)
+    words.iter().all(|word| word.len() < WORD_LIMIT)
 }
 
 /// Writes the usage line to `err`, and answers the exit status that goes with it. A fault of `err` changes nothing.

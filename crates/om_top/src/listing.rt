@@ -3,7 +3,7 @@ ghost use Rattle.std.specs.Prelude.{◌≡◌, ℕ, ◌≤◌, ◌<◌, ◌∷�
 ghost use Rattle.om_model.specs.Diagram.{upto};
 ghost use Rattle.om_model.specs.Model.{theory_of};
 ghost use Rattle.om_top.specs.Choices.{stands_in};
-ghost use Rattle.om_top.specs.TreeLists.{pairs_of, branches_over, leaves_over, interactions as every_interaction, joins_at, joins_over, trees_over, diagram_list};
+ghost use Rattle.om_top.specs.TreeLists.{pairs_of, branches_over, leaves_over, interactions as every_interaction, joins_at, joins_over, trees_over, hanging_list};
 ghost use Rattle.om_top.specs.Shapes.{shape_of, shape_below, shape_under, shape_of_all, name_over};
 
 use crate::combinations::{Split, holds, splits};
@@ -11,7 +11,7 @@ use crate::diagrams::{Diagram, join_pairs};
 use crate::edge_name::EdgeName;
 use crate::interactions::Interaction;
 use crate::lists::with_first;
-use om_model::{Model, Process};
+use om_model::{Model, Process, anti_field};
 use om_ring::{List, NoMemory};
 use std::alloc::Global;
 
@@ -82,16 +82,7 @@ impl Listing<'_> {
     fn anti(&self, field: u16) -> u16
         ensures { result ≡ (scattering_of self.now.model.now self.now.process.now).theory.anti field }
     {
-        let Some(particle) = self.model.particles.as_slice().get(field as usize / 2) else {
-            return field;
-        };
-        if particle.name.bytes() == particle.anti.bytes() {
-            field
-        } else if field % 2 == 0 {
-            field + 1
-        } else {
-            field - 1
-        }
+        anti_field(self.model.particles.as_slice(), field)
     }
 
     /// The name of the edge above a tree over these legs, from which this field goes upwards.
@@ -244,10 +235,10 @@ impl Listing<'_> {
         join_pairs(self.alloc, trees.as_slice(), others.as_slice(), found)
     }
 
-    /// What is kept of all diagrams: of what hangs from the last leg.
+    /// What is kept of all that hangs from the last leg, whatever edges are named.
     pub(crate) fn diagrams(&self) -> Result<List<Diagram>, NoMemory>
         ensures { let s = scattering_of self.now.model.now self.now.process.now in
-            IfOk result (λ l. l ≡ map (shape_of s) (diagram_list s)) }
+            IfOk result (λ l. l ≡ map (shape_of s) (hanging_list s)) }
     {
         let size = self.process.legs.len();
         let others = &self.legs.as_slice()[..size.saturating_sub(1)];

@@ -1,4 +1,4 @@
-//! Copies of lists.
+//! Longer lists.
 ghost use Rattle.std.specs.Prelude.{◌≡◌, ◌∷◌, ◌++◌, OnOk, IfOk};
 
 use om_ring::{List, NoMemory};
@@ -12,15 +12,6 @@ pub(crate) fn append<T: Copy>(to: &mut List<T>, from: &[T]) -> Result<(), NoMemo
         to.push(*item)?;
     }
     Ok(())
-}
-
-/// The list of what a slice holds.
-pub(crate) fn copy_of<T: Copy>(alloc: Global, from: &[T]) -> Result<List<T>, NoMemory>
-    ensures { IfOk result (λ l. l ≡ from.now) }
-{
-    let mut to = List::new(alloc);
-    append(&mut to, from)?;
-    Ok(to)
 }
 
 /// The same with one item in front.

@@ -1,6 +1,9 @@
 //! What an evaluation takes before it reads an event.
-ghost use Rattle.std.specs.Prelude.{◌≡◌, ◌≤◌, IfOk, All, length, map, vec_len, replicate};
+ghost use Rattle.std.specs.Prelude.{◌≡◌, ◌+◌, ◌*◌, ◌≤◌, IfOk, All, length, map, vec_len, replicate};
+ghost use Rattle.std.specs.List.{sum_by};
 ghost use Rattle.om_model.specs.ModelTable.{number};
+ghost use Rattle.om_legs.specs.declared.leg_set.TheConstants.{MOST_LEGS};
+ghost use Rattle.om_top.specs.Calls.{numbers_calls, particle_calls, product_calls, vertex_calls};
 ghost use Rattle.om_top.specs.Incoming.{HasPlaces};
 ghost use Rattle.om_top.specs.Numbers.{HasParticleRows, HasRows, first_factor, with_particles};
 ghost use Rattle.om_top.specs.Prepared.{IsPrepared};
@@ -20,7 +23,7 @@ pub(crate) struct Prepared<E> {
     pub(crate) event: Vec<Incoming<E>>,
 }
 
-/// Takes all memory that the events of a process of at most 64 legs need, and then computes the numbers of the model.
+/// Takes all memory that the events of a process of at most 12 legs need, and then computes the numbers of the model.
 pub(crate) fn prepare<R: Ring<Mark = L>, L>(
     alloc: Global,
     ring: &R,
@@ -28,9 +31,10 @@ pub(crate) fn prepare<R: Ring<Mark = L>, L>(
     process: &Process,
     steps: &mut Steps<L>,
 ) -> Result<Prepared<R::E>, NoMemory>
-    requires legs { length process.now.legs ≤ 64 }
+    requires legs { length process.now.legs ≤ MOST_LEGS }
     requires slots { HasThreeOrFourSlots model.now }
-    ensures { IfOk result (λ x. IsPrepared (R.ops ring.now) model.now process.now x) }
+    ensures prepared { IfOk result (λ x. IsPrepared (R.ops ring.now) model.now process.now x) }
+    ensures calls { steps.new ≤ steps.old + numbers_calls model.now * R.cost ring.now }
 {
     let diagrams = list_diagrams(alloc, model, process)?;
     let mut numbers = no_numbers(alloc, ring, model)?;
@@ -60,7 +64,8 @@ fn no_numbers<R: Ring>(alloc: Global, ring: &R, model: &Model) -> Result<Table<R
 
 /// The value of a product, or 0 where it has none. An accepted model has no product without value.
 fn number<R: Ring<Mark = L>, L>(ring: &R, product: &[Numeral], steps: &mut Steps<L>) -> R::E
-    ensures { result ≡ number (R.ops ring.now) product.now }
+    ensures value { result ≡ number (R.ops ring.now) product.now }
+    ensures calls { steps.new ≤ steps.old + product_calls product.now * R.cost ring.now }
 {
     match value_of_product(ring, product, steps) {
         Some(value) => value,
@@ -70,7 +75,8 @@ fn number<R: Ring<Mark = L>, L>(ring: &R, product: &[Numeral], steps: &mut Steps
 
 /// The value of the first factor of a vertex, or 0 where it has none.
 fn first_factor<R: Ring<Mark = L>, L>(ring: &R, vertex: &Vertex, steps: &mut Steps<L>) -> R::E
-    ensures { result ≡ first_factor (R.ops ring.now) vertex.now }
+    ensures value { result ≡ first_factor (R.ops ring.now) vertex.now }
+    ensures calls { steps.new ≤ steps.old + vertex_calls vertex.now * R.cost ring.now }
 {
     match vertex.factors.as_slice().first() {
         Some(factor) => number(ring, factor.as_slice(), steps),
@@ -86,7 +92,8 @@ fn set_factors<R: Ring<Mark = L>, L>(
     steps: &mut Steps<L>,
 )
     requires { length factors.old ≡ length vertices.now }
-    ensures { factors.new ≡ map (first_factor (R.ops ring.now)) vertices.now }
+    ensures value { factors.new ≡ map (first_factor (R.ops ring.now)) vertices.now }
+    ensures calls { steps.new ≤ steps.old + sum_by vertex_calls vertices.now * R.cost ring.now }
 {
     for (row, vertex) in vertices.iter().enumerate() {
         factors.set(row, first_factor(ring, vertex, steps));
@@ -101,7 +108,8 @@ fn set_particle_numbers<R: Ring<Mark = L>, L>(
     steps: &mut Steps<L>,
 )
     requires { HasParticleRows particles.now table.old }
-    ensures { table.new ≡ with_particles (R.ops ring.now) table.old.factors particles.now }
+    ensures value { table.new ≡ with_particles (R.ops ring.now) table.old.factors particles.now }
+    ensures calls { steps.new ≤ steps.old + sum_by particle_calls particles.now * R.cost ring.now }
 {
     for (row, particle) in particles.iter().enumerate() {
         table

@@ -1,22 +1,22 @@
 //! The process of a text.
-ghost use Rattle.std.specs.Prelude.{◌≤◌, length};
+ghost use Rattle.std.specs.Prelude.{◌<◌, ◌≤◌, ◌^◌, length};
+ghost use Rattle.om_top.specs.declared.limits.TheConstants.{WORD_LIMIT};
 ghost use Rattle.om_top.specs.Loads.{LoadsProcess};
 
 use crate::ending::Ending;
+use crate::limits::MOST_EVALUATED_LEGS;
 use om_model::{Model, Process, ProcessFault, read_process};
 use std::alloc::Global;
 
-/// More legs are not evaluated so far.
-const MOST_LEGS: usize = 5;
-
 /// The process of the model that a text is. Where there is none that is evaluated, the answer is how the run ends.
 pub(crate) fn load_process(alloc: Global, model: &Model, text: &str) -> Result<Process, Ending>
-    requires { length model.now.particles ≤ 32768 }
+    requires rows { length model.now.particles ≤ 2 ^ 15 }
+    requires bytes { length text.now < WORD_LIMIT }
     ensures { LoadsProcess model.now text.now result }
 {
     match read_process(alloc, model, text.as_bytes()) {
         Ok(process) => {
-            if process.legs.len() > MOST_LEGS {
+            if process.legs.len() > MOST_EVALUATED_LEGS {
                 Err(Ending::ProcessNotBuilt)
             } else {
                 Ok(process)

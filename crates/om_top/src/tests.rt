@@ -473,9 +473,31 @@ const MODEL_CASES: &[Case] = &[
         words: &[
             "eval",
             "model.toml",
-            "phi phi phi phi phi phi phi phi phi phi -> phi",
+            "phi phi phi phi phi phi phi phi phi phi phi phi -> phi",
         ],
-        err: "process: 11 legs\n",
+        err: "process: 13 legs\n",
+        ..NO_PROCESS
+    },
+    Case {
+        words: &["eval", "model.toml", "phi phi -> phi phi / 1+2"],
+        file: Some(PHI34),
+        out: "1 - 18446673700670406657\n",
+        ..FOUR
+    },
+    Case {
+        words: &["eval", "model.toml", "phi phi -> phi phi / 1+2 / 1+3"],
+        read_fails: 1,
+        out: "no amplitude\n",
+        ..FOUR
+    },
+    Case {
+        words: &["eval", "model.toml", "phi phi -> phi phi / 1+2+3"],
+        err: "process: edge at byte 21\n",
+        ..NO_PROCESS
+    },
+    Case {
+        words: &["eval", "model.toml", "phi phi -> phi phi / 2+1"],
+        err: "process: syntax at byte 21\n",
         ..NO_PROCESS
     },
 ];

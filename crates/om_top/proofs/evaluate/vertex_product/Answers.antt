@@ -1,3 +1,4 @@
+use Rattle.std.proofs.Common.{arith}
 use Rattle.om_ring.specs.Ops.{laws_from}
 use Rattle.om_top.specs.Evaluation.{vertex_factor}
 use Rattle.om_top.proofs.LoopLemmas.{product_step}
@@ -7,5 +8,9 @@ pub loop-vertex-preserved : goal.loop-vertex-preserved
 loop-vertex-preserved g c =
     let ring = c.args.ring.now in let o = g.R.Ring.ops ring in
     let l = laws_from (g.R.Ring.element ring) o (g.met.R.Ring.known ring) (g.met.R.Ring.laws ring) in
-    product_step o l (vertex_factor o c.args.table.now) c.args.vertices.now c.loop-vertex.vertex-index 0 c.loop-vertex.product c.vertex_factor-factor.result c.mul-product.result
-    c.loop-vertex-test.true c.loop-vertex.invariant c.vertex_factor-factor.ensures c.mul-product.ensures.value
+    let before = c.loop-vertex.invariant in
+    record {
+      value = product_step o l (vertex_factor o c.args.table.now) c.args.vertices.now c.loop-vertex.vertex-index 0 c.loop-vertex.product c.vertex_factor-factor.result c.mul-product.result
+          c.loop-vertex-test.true before.value c.vertex_factor-factor.ensures.value c.mul-product.ensures.value;
+      calls = omega (arith, before.calls, c.vertex_factor-factor.ensures.calls, c.mul-product.ensures.at_most);
+    }

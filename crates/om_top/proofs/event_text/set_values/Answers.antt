@@ -21,6 +21,7 @@ loop-place-preserved g c =
     record {
       valued = valued_more o xs k x v within at value inv.valued;
       values = set_next (number_value o) xs k x v c.args.places.now c.loop-place.places c.set.new.self c.requires within at (value_is o x v value) inv.values c.set.ensures;
+      calls = omega (arith, inv.calls, c.value_of.ensures.at_most);
       size = set_size c.loop-place.places c.set.new.self k (length c.args.places.now) v c.set.ensures inv.size;
     }
 
