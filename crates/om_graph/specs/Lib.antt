@@ -1,0 +1,12 @@
+pub mod Fusion
+pub mod Graph
+pub mod Search
+pub mod Tuples
+pub mod Splits
+pub mod Vertices
+pub mod WellFormed
+pub mod Reactions
+pub mod Possible
+pub mod TreeKeys
+pub mod ColoursFit
+pub mod HaveReactions
