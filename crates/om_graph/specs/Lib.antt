@@ -10,3 +10,7 @@ pub mod Possible
 pub mod TreeKeys
 pub mod ColoursFit
 pub mod HaveReactions
+pub mod Loops
+pub mod Caches
+pub mod Fillings
+pub mod SetSearch

@@ -7,11 +7,23 @@
 //! known by then. The nodes of a set stand side by side, and a table from sets to ranges of numbers gives them without a search.
 #![tactic(auto)]
 
+mod chosen;
+mod closings;
+mod fields;
+mod fusions;
 pub mod laws;
+mod nodes;
+mod reaction;
+mod slots;
+mod walk;
 
 use om_colour::{Flow, Partial};
 use om_legs::{Branches, LegSet};
 use om_ring::List;
+pub use walk::build;
+
+/// How many terms and keystone terms a graph may have together.
+pub const MOST_TERMS: usize = 4_194_304;
 
 /// What a wave function is known by: the legs behind it, the field that leaves them and the colour lines among them.
 ///
@@ -27,22 +39,22 @@ pub struct Key {
 #[derive(Clone, Copy, PartialEq, Eq, Debug)]
 pub struct Term {
     pub node: u32,
+    pub vertex: u32,
+    pub branches: Branches,
+    pub choice: u8,
     /// The sign is -1.
     pub minus: bool,
-    pub vertex: u32,
-    pub choice: u8,
-    pub branches: Branches,
 }
 
 /// Nodes that meet at a keystone and make a flow. Numbers count from 0.
 #[derive(Clone, Copy, PartialEq, Eq, Debug)]
 pub struct KeyTerm {
     pub flow: u32,
+    pub vertex: u32,
+    pub branches: Branches,
+    pub choice: u8,
     /// The sign is -1.
     pub minus: bool,
-    pub vertex: u32,
-    pub choice: u8,
-    pub branches: Branches,
 }
 
 /// Nodes, terms, keystone terms and flows, each once and in order. Nodes are ordered by number of legs, then set, field and
