@@ -6,7 +6,7 @@ use Rattle.om_legs.specs.Legs.{holds}
 use Rattle.om_model.specs.Parts.{Part as Edge, first_from, least, others, put, sort}
 use Rattle.om_model.specs.Slots.{first_with as first_edge, without_first as without_edge, fill, in_slots}
 use Rattle.om_graph.specs.declared.Key.{Key}
-use Rattle.om_graph.specs.declared.slots.Part.{Part}
+use Rattle.om_graph.specs.declared.parts.Part.{Part}
 use Rattle.om_graph.specs.Fillings.{first_with, without_first, filled, known_part, branch_part}
 use Rattle.om_graph.specs.Loops.{one_or_none}
 use Rattle.om_graph.specs.Vertices.{Reaction, branch, upward, slots_of, fused_slots, closed_slots}

@@ -73,12 +73,15 @@ module _ (r : Reaction) where
     module _ (h : HasFields r.scattering.theory) where
       makes : (x : Found Key) → MadeAt r.scattering.theory.vertices r.scattering.theory.choices left fused x → (x.branches ≡ is) × MakesKey x.vertex x.choice ks x.made
       unfolding fused left fused_at fused_key
-      makes x m = subst (λ (y : Found Key). (y.branches ≡ is) × MakesKey y.vertex y.choice ks y.made) (sym m.is) (refl, record {
-        vertex = m.vertex;
-        choice = m.choice;
-        slots = subst (λ g. same_numbers (g ∷ fields_of ks) (r.scattering.theory.slots m.v) ≡ true) (sym (h.anti_anti m.a)) (left_fills (r.scattering.theory.slots m.v) (fields_of ks) m.a m.passes);
-        made = refl;
-      })
+      makes x m = subst (λ (y : Found Key). (y.branches ≡ is) × MakesKey y.vertex y.choice ks y.made) (sym m.is) (
+        refl,
+        record {
+          vertex = m.vertex;
+          choice = m.choice;
+          slots = subst (λ g. same_numbers (g ∷ fields_of ks) (r.scattering.theory.slots m.v) ≡ true) (sym (h.anti_anti m.a)) (left_fills (r.scattering.theory.slots m.v) (fields_of ks) m.a m.passes);
+          made = refl;
+        },
+      )
 
       made : (x : Found Key) → x.branches ≡ is → MakesKey x.vertex x.choice ks x.made → MadeAt r.scattering.theory.vertices r.scattering.theory.choices left fused x
       unfolding fused left fused_at
@@ -97,12 +100,15 @@ module _ (r : Reaction) where
 
       closes : (x : Found Flow) → MadeAt r.scattering.theory.vertices r.scattering.theory.choices fills closed x → (x.branches ≡ is) × MakesFlow x.vertex x.choice ks x.made
       unfolding closed fills closed_at
-      closes x m = subst (λ (y : Found Flow). (y.branches ≡ is) × MakesFlow y.vertex y.choice ks y.made) (sym m.is) (refl, record {
-        vertex = m.vertex;
-        choice = m.choice;
-        slots = by (same_numbers (fields_of ks) (r.scattering.theory.slots m.v)) m.passes;
-        made = refl;
-      })
+      closes x m = subst (λ (y : Found Flow). (y.branches ≡ is) × MakesFlow y.vertex y.choice ks y.made) (sym m.is) (
+        refl,
+        record {
+          vertex = m.vertex;
+          choice = m.choice;
+          slots = by (same_numbers (fields_of ks) (r.scattering.theory.slots m.v)) m.passes;
+          made = refl;
+        },
+      )
         where
           by : (b : Bool) → cond b (Some tt) None ≡ Some m.a → b ≡ true
           by true e = refl
@@ -128,9 +134,9 @@ module _ (r : Reaction) where
     unfolding fused fused_at
     meets_fused = record {
       exact = λ is ks x. (
-          (λ i. makes is ks h x ((just_made r.scattering.theory.vertices r.scattering.theory.choices (left is ks) (fused is ks) x).0 (subst (In x) (fused_are is ks) i))),
-          (λ m. subst (In x) (sym (fused_are is ks)) ((just_made r.scattering.theory.vertices r.scattering.theory.choices (left is ks) (fused is ks) x).1 (made is ks h x m.0 m.1))),
-        );
+        (λ i. makes is ks h x ((just_made r.scattering.theory.vertices r.scattering.theory.choices (left is ks) (fused is ks) x).0 (subst (In x) (fused_are is ks) i))),
+        (λ m. subst (In x) (sym (fused_are is ks)) ((just_made r.scattering.theory.vertices r.scattering.theory.choices (left is ks) (fused is ks) x).1 (made is ks h x m.0 m.1))),
+      );
       once = λ is ks. subst Different (sym (fused_are is ks)) (made_once r.scattering.theory.vertices r.scattering.theory.choices (left is ks) (fused is ks) (λ a v c. (refl, refl)));
     }
 
@@ -138,8 +144,8 @@ module _ (r : Reaction) where
     unfolding closed closed_at
     meets_closed = record {
       exact = λ is ks x. (
-          (λ i. closes is ks h x ((just_made r.scattering.theory.vertices r.scattering.theory.choices (fills is ks) (closed is ks) x).0 (subst (In x) (closed_are is ks) i))),
-          (λ m. subst (In x) (sym (closed_are is ks)) ((just_made r.scattering.theory.vertices r.scattering.theory.choices (fills is ks) (closed is ks) x).1 (closing is ks h x m.0 m.1))),
-        );
+        (λ i. closes is ks h x ((just_made r.scattering.theory.vertices r.scattering.theory.choices (fills is ks) (closed is ks) x).0 (subst (In x) (closed_are is ks) i))),
+        (λ m. subst (In x) (sym (closed_are is ks)) ((just_made r.scattering.theory.vertices r.scattering.theory.choices (fills is ks) (closed is ks) x).1 (closing is ks h x m.0 m.1))),
+      );
       once = λ is ks. subst Different (sym (closed_are is ks)) (made_once r.scattering.theory.vertices r.scattering.theory.choices (fills is ks) (closed is ks) (λ a v c. (refl, refl)));
     }

@@ -94,4 +94,3 @@ reaction_is m p fields lines colours is = record {
 
 pub well_formed_have_reactions : WellFormedHaveReactions
 well_formed_have_reactions m p formed is = reaction_is m p formed.inner formed.lines formed.colours is
-

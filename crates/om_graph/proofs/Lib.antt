@@ -41,3 +41,9 @@ pub mod SplitMembers
 pub mod PartSizes
 pub mod SetOrder
 pub mod LegNodes
+pub mod FoundOrder
+pub mod WalkSteps
+pub mod AddedSigns
+pub mod SplitLists
+pub mod SignedLists
+pub mod SetStep

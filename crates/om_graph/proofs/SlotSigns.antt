@@ -10,16 +10,20 @@ use Rattle.om_legs.proofs.Operations.{holds-meeting}
 use Rattle.om_graph.specs.declared.Key.{Key}
 use Rattle.om_graph.specs.Vertices.{crossings_with, four_slots, slot_crossings}
 
+none_behind : (xs : List ℕ) → crossings xs [] ≡ 0
+none_behind [] = refl
+none_behind (x ∷ xs) =
+    let a = sum_by-cons (λ x. count_by (λ y. nat_lt y x) []) x xs in
+    let b = none_behind xs in
+    let z : count_by (λ y. nat_lt y x) [] ≡ 0 = refl in
+    omega (arith, a, b, z)
+
 module _ (fermions : ℕ) where
   none_meets : meeting 0 fermions ≡ 0
   none_meets = same_sets (meeting 0 fermions) 0 (λ k. holds-meeting 0 fermions k (omega arith) ∙ ap (λ b. Rattle.std.proofs.Common.◌&&◌ b (Rattle.om_legs.specs.Legs.holds fermions k)) (holds_none k) ∙ sym (holds_none k))
 
   crosses_none : (a : ℕ) → crossings (legs_of (meeting a fermions)) (legs_of (meeting 0 fermions)) ≡ 0
   crosses_none a = ap (crossings (legs_of (meeting a fermions))) (ap legs_of none_meets ∙ legs_of-empty) ∙ none_behind (legs_of (meeting a fermions))
-    where
-      none_behind : (xs : List ℕ) → crossings xs [] ≡ 0
-      none_behind [] = refl
-      none_behind (x ∷ xs) = sum_by-cons (λ x. count_by (λ y. nat_lt y x) []) x xs ∙ none_behind xs
 
   with_none : (a : ℕ) (slots : List (Option Key)) → crossings_with fermions a (slots ++ None ∷ []) ≡ crossings_with fermions a slots
   unfolding crossings_with

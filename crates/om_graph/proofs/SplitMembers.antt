@@ -209,9 +209,10 @@ module _ (r : Reaction) where
   closing_split parts m =
       let all = all_legs r.scattering.size in
       let w = IsLegSet-all_legs r.scattering.size in
-      (in_filter (λ ps. all_in (is_outward r.scattering.size) ps && keeps_edges r ps) parts (triples all ++ quadruples all)).1
-      (split_either 3 4 all three_not_four (triples all) (quadruples all) (AreSplits-triples all w) (AreSplits-quadruples all w) parts m.counted m.split,
-      both_true (all_in (is_outward r.scattering.size) parts) (keeps_edges r parts) m.outward m.edges)
+      (in_filter (λ ps. all_in (is_outward r.scattering.size) ps && keeps_edges r ps) parts (triples all ++ quadruples all)).1 (
+        split_either 3 4 all three_not_four (triples all) (quadruples all) (AreSplits-triples all w) (AreSplits-quadruples all w) parts m.counted m.split,
+        both_true (all_in (is_outward r.scattering.size) parts) (keeps_edges r parts) m.outward m.edges,
+      )
 
   keystones_once : Different (keystone_splits r)
   unfolding keystone_splits

@@ -1,5 +1,7 @@
 -- What the loops find, in the order in which they find it.
-use Rattle.std.specs.Prelude.{◌≡◌, ℕ, zero, suc, ◌+◌, ◌≤◌, ◌<◌, List, [], ◌∷◌, ◌++◌, map, flat_map, length, take, Bool, true, false, cond, ◌&&◌, Option, Some, None, Result, MatchResult}
+use Rattle.std.specs.Prelude.{◌≡◌, ℕ, zero, suc, ◌+◌, ◌≤◌, ◌<◌, ◌⊎◌, List, [], ◌∷◌, ◌++◌, map, flat_map, length, take, Bool, true, false, cond, ◌&&◌, Option, Some, None, Result, MatchResult}
+use Rattle.om_legs.specs.Legs.{all_legs}
+use Rattle.om_legs.specs.Splits.{IsSplit}
 use Rattle.om_colour.specs.Partials.{joined, closed, no_hole, Fits}
 use Rattle.om_colour.specs.declared.Flow.{Flow}
 use Rattle.om_ring.specs.Members.{In}
@@ -132,6 +134,10 @@ CanMeet r ks = (m : Meeting) → IsMeeting r false ks m → CanJoinAt r ks m.ver
 abbrev pub CanMeetFrom : Reaction → List Key → List ℕ → List ℕ → Type 0
 CanMeetFrom r ns is parts = (js : List ℕ) (ks : List Key) → In js (tuples (λ (k : Key). k.legs) ns parts) → at_numbers ns (is ++ js) ≡ Some ks → CanMeet r ks
 
+-- and over all splits of a set
+abbrev pub CanMeetOver : Reaction → List Key → ℕ → Type 0
+CanMeetOver r ns set = (n : ℕ) (parts : List ℕ) → (n ≡ 2) ⊎ (n ≡ 3) → IsSplit n set parts → CanMeetFrom r ns [] parts
+
 -- the same where nodes meet at a keystone
 abbrev pub CanClose : Reaction → List Key → ℕ → Type 0
 CanClose r ks v = (c : ℕ) → c < r.scattering.theory.choices v → Fits (slot_partials (four_slots (closed_slots r v ks))) (r.choice v c) no_hole
@@ -141,3 +147,6 @@ CanCloseAt r ks = (m : Meeting) → IsMeeting r true ks m → CanClose r ks m.ve
 
 abbrev pub CanCloseFrom : Reaction → List Key → List ℕ → List ℕ → Type 0
 CanCloseFrom r ns is parts = (js : List ℕ) (ks : List Key) → In js (tuples (λ (k : Key). k.legs) ns parts) → at_numbers ns (is ++ js) ≡ Some ks → CanCloseAt r ks
+
+abbrev pub CanCloseOver : Reaction → List Key → Type 0
+CanCloseOver r ns = (n : ℕ) (parts : List ℕ) → (n ≡ 3) ⊎ (n ≡ 4) → IsSplit n (all_legs r.scattering.size) parts → CanCloseFrom r ns [] parts

@@ -1,17 +1,21 @@
 //! What nodes fuse to, found tuple by tuple.
-ghost use Rattle.std.specs.Prelude.{◌≡◌, ◌+◌, ◌≤◌, ◌<◌, [], ◌∷◌, map, flat_map, length, Some, OnOk, false, List};
+ghost use Rattle.std.specs.List.Sorted.{IsPermutation, IsSortedBy};
+ghost use Rattle.std.specs.Prelude.{◌≡◌, ℕ, All, IfErr, ◌+◌, ◌≤◌, ◌<◌, [], ◌∷◌, map, flat_map, length, Some, OnOk, false, List};
 ghost use Rattle.om_graph.specs.Caches.{AllBelow, AreMeetings};
-ghost use Rattle.om_graph.specs.Graph.{at_numbers};
+ghost use Rattle.om_graph.specs.Graph.{at_numbers, found_lt};
 ghost use Rattle.om_graph.specs.declared.Key.{Key as KeyOf};
 ghost use Rattle.om_graph.specs.Reactions.{reaction_in};
-ghost use Rattle.om_graph.specs.Loops.{Adds, CanJoinAt, CanMeet, CanMeetFrom, chosen_nodes, fused_by, fused_seen, meet_fused};
+ghost use Rattle.om_graph.specs.Loops.{Adds, CanJoinAt, CanMeet, CanMeetFrom, chosen_nodes, fused_by, fused_found, fused_seen, meet_fused};
+ghost use Rattle.om_graph.specs.Possible.{key_lt};
+ghost use Rattle.om_graph.specs.SetWalk.{IsOver};
 ghost use Rattle.om_graph.specs.Tuples.{met, met_from};
 
 use crate::chosen::Chosen;
 use crate::fields::{Meeting, Meetings};
 use crate::nodes::Nodes;
 use crate::reaction::Reaction;
-use crate::slots::{fill_around, is_odd, joined, union_of};
+use crate::signs::is_odd;
+use crate::slots::{fill_around, joined, union_of};
 use crate::{BuildFault, Key};
 use om_legs::LegSet;
 use std::alloc::Global;
@@ -140,6 +144,19 @@ fn add(found: &mut Vec<Fused>, limit: usize, one: Fused) -> Result<(), BuildFaul
         return Err(BuildFault::TooLarge);
     }
     match found.push(one) {
+        Ok(()) => Ok(()),
+        Err(_) => Err(BuildFault::Memory),
+    }
+}
+
+/// Puts what was found over one set in order.
+pub(crate) fn sort(found: &mut Vec<Fused>) -> Result<(), BuildFault>
+    requires { (set : ℕ) × (counts : ℕ → ℕ) × All (IsOver set counts) found.old.items }
+    ensures same { IsPermutation found.old.items found.new.items }
+    ensures sorted { OnOk result (IsSortedBy (λ x y. found_lt key_lt (fused_found x) (fused_found y)) found.new.items) }
+    ensures fault { IfErr result (λ fault. fault ≡ BuildFault.Memory) }
+{
+    match found.sort() {
         Ok(()) => Ok(()),
         Err(_) => Err(BuildFault::Memory),
     }

@@ -11,16 +11,23 @@ mod chosen;
 mod closings;
 mod fields;
 mod fusions;
+mod key_terms;
 pub mod laws;
 mod nodes;
+mod partitions;
+mod parts;
+mod possible_graph;
 mod reaction;
+mod set_fusions;
+mod signs;
 mod slots;
+mod terms;
 mod walk;
 
 use om_colour::{Flow, Partial};
 use om_legs::{Branches, LegSet};
 use om_ring::List;
-pub use walk::build;
+pub use possible_graph::build;
 
 /// How many terms and keystone terms a graph may have together.
 pub const MOST_TERMS: usize = 4_194_304;

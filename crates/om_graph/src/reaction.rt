@@ -8,12 +8,13 @@ ghost use Rattle.om_graph.specs.Reactions.{is_fermion_leg, reaction_in, HasRows}
 ghost use Rattle.om_graph.specs.WellFormed.{IsProcessOf, IsWellFormed};
 ghost use Rattle.om_model.specs.Diagrams.{any_in};
 ghost use Rattle.om_model.specs.ModelLines.{is_dirac as is_dirac_of};
-ghost use Rattle.om_graph.specs.Vertices.{is_outward as is_outward_of, keeps_edges as keeps_edges_of, lies_in as lies_in_of};
+ghost use Rattle.om_graph.specs.Vertices.{is_outward as is_outward_of, keeps_edges as keeps_edges_of, leg_key, lies_in as lies_in_of};
 
-use om_colour::{Choice, ColourRow};
+use crate::Key;
+use om_colour::{Choice, ColourRow, partial_of_leg};
 use om_legs::LegSet;
 use om_lorentz::Spin;
-use om_model::{Leg, Particle, Process, Vertex, colour_row, spin_of_field};
+use om_model::{Leg, Particle, Process, Vertex, colour_of_field, colour_row, spin_of_field};
 use om_ring::NoMemory;
 use std::alloc::Global;
 use std::marker::Model;
@@ -82,6 +83,20 @@ impl<'a> Reaction<'a> {
         ensures { result ≡ (reaction_in self.now).scattering.theory.vertices }
     {
         self.model.vertices.len() as u32
+    }
+
+    /// What is known of a leg as a node.
+    pub(crate) fn leg_key(&self, leg: u8) -> Key
+        requires some { 0 < leg }
+        requires within { leg ≤ (reaction_in self.now).scattering.size }
+        ensures { result ≡ leg_key (reaction_in self.now) leg }
+    {
+        let field = self.process.legs.at((leg - 1) as usize).field;
+        Key {
+            legs: LegSet::one(leg),
+            field,
+            partial: partial_of_leg(leg, colour_of_field(self.particles(), field)),
+        }
     }
 
     /// The legs that are fermions.

@@ -19,7 +19,7 @@ pub joined-requires-clause-free : goal.joined-requires-clause-free
 joined-requires-clause-free c = let f = fits_at (reaction_in c.args.reaction.now) c.in-Some.field c.args.meeting.vertex c.loop-choice.choice c.args.keys.now c.union_of-legs.result c.fill_around-slots.result.hole c.fill_around-slots.result.keys c.args.meeting.up c.requires.join c.in-Some.is c.union_of-legs.ensures c.fill_around-slots.ensures.keys c.fill_around-slots.ensures.hole (subst (λ n. c.loop-choice.choice < n) c.choices-choice-end.ensures c.loop-choice-test.true) in f.free
 
 pub joined-requires-clause-fit : goal.joined-requires-clause-fit
-joined-requires-clause-fit c = let f = fits_at (reaction_in c.args.reaction.now) c.in-Some.field c.args.meeting.vertex c.loop-choice.choice c.args.keys.now c.union_of-legs.result c.fill_around-slots.result.hole c.fill_around-slots.result.keys c.args.meeting.up c.requires.join c.in-Some.is c.union_of-legs.ensures c.fill_around-slots.ensures.keys c.fill_around-slots.ensures.hole (subst (λ n. c.loop-choice.choice < n) c.choices-choice-end.ensures c.loop-choice-test.true) in f.2 c.loop-choice.choice (subst (λ n. c.loop-choice.choice < n) c.choices-choice-end.ensures c.loop-choice-test.true)
+joined-requires-clause-fit c = let f = fits_at (reaction_in c.args.reaction.now) c.in-Some.field c.args.meeting.vertex c.loop-choice.choice c.args.keys.now c.union_of-legs.result c.fill_around-slots.result.hole c.fill_around-slots.result.keys c.args.meeting.up c.requires.join c.in-Some.is c.union_of-legs.ensures c.fill_around-slots.ensures.keys c.fill_around-slots.ensures.hole (subst (λ n. c.loop-choice.choice < n) c.choices-choice-end.ensures c.loop-choice-test.true) in f.fits
 
 pub returns-in-Err : goal.returns-in-Err
 returns-in-Err c = record {
