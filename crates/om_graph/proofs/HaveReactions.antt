@@ -19,7 +19,8 @@ use Rattle.om_model.specs.KeystoneForm.{HasFields}
 use Rattle.om_model.specs.ColourLines.{HasColourLines}
 use Rattle.om_model.proofs.SetNumbers.{members-suc}
 use Rattle.om_graph.specs.Reactions.{reaction_of, fermions_of}
-use Rattle.om_graph.specs.WellFormed.{IsProcessOf}
+use Rattle.om_model.specs.ProcessOf.{IsProcessOf}
+use Rattle.om_model.proofs.WellFormedLines.{well_formed_have_lines}
 use Rattle.om_graph.specs.TreeKeys.{IsReaction}
 use Rattle.om_graph.specs.HaveReactions.{WellFormedHaveReactions}
 use Rattle.om_graph.proofs.SetNodes.{number_of}
@@ -93,4 +94,4 @@ reaction_is m p fields lines colours is = record {
         holds-set_of _ k low (omega (arith, high, l)) ∙ ap (λ b. b && is_dirac (spin_of_field m.particles f)) test ∙ either_kind (is_dirac (spin_of_field m.particles f)) (f % 2 == 0)
 
 pub well_formed_have_reactions : WellFormedHaveReactions
-well_formed_have_reactions m p formed is = reaction_is m p formed.inner formed.lines formed.colours is
+well_formed_have_reactions m p formed is = let have = well_formed_have_lines m formed in reaction_is m p have.0 have.1 have.2 is

@@ -1,5 +1,5 @@
 -- The legs are the nodes of one leg, and the walk begins with them.
-use Rattle.std.proofs.Common.{◌≡◌, ℕ, zero, suc, ◌+◌, ◌-◌, ◌^◌, ◌<◌, ◌≤◌, List, [], ◌∷◌, map, length, Bool, true, false, cond, eqb, ltb, ◌⊎◌, inl, inr, ⊎_elim, refl, ap, sym, subst, ◌∙◌, arith, true≢false}
+use Rattle.std.proofs.Common.{◌≡◌, ℕ, zero, suc, ◌+◌, ◌-◌, ◌^◌, ◌<◌, ◌≤◌, List, [], ◌∷◌, ◌++◌, map, length, Bool, true, false, cond, eqb, ltb, ◌⊎◌, inl, inr, ⊎_elim, refl, ap, ap₂, sym, subst, ◌∙◌, arith, true≢false}
 use Rattle.std.specs.List.{Contains}
 use Rattle.std.proofs.Math.Pow.{pow_mono, pow-lt}
 use Rattle.std.proofs.lemmas.Bool.{eqb-true, eq-eqb, ne_eqb}
@@ -22,22 +22,29 @@ use Rattle.om_model.specs.LegSets.{leg_set}
 use Rattle.om_model.specs.Spelled.{IsSubtree}
 use Rattle.om_model.proofs.LegSets.{has_leg_set, leg_set_of_leaf}
 use Rattle.om_graph.specs.declared.Key.{Key}
-use Rattle.om_graph.specs.Caches.{counts_from}
+use Rattle.om_graph.specs.Caches.{counts_from, StandLast}
 use Rattle.om_graph.specs.Fusion.{IsNode, HasKey}
 use Rattle.om_graph.specs.Graph.{Numbered, IsTerm, AreTerms}
 use Rattle.om_graph.specs.Possible.{key_lt}
-use Rattle.om_graph.specs.Search.{HasDone, Ready, all_done, AreNodes}
+use Rattle.om_graph.specs.Search.{HasDone, Ready, all_done, AreNodes, interned}
 use Rattle.om_graph.specs.SetSearch.{set_search, leg_keys, leg_state, outward_sets}
 use Rattle.om_graph.specs.TreeKeys.{IsReaction, key_of}
 use Rattle.om_graph.specs.Vertices.{Reaction, Fuses, fusion, leg_key, is_outward}
 use Rattle.om_graph.proofs.KeysOfSides.{leg_subtree, side_of, outward_of}
 use Rattle.om_graph.proofs.Lists.{in_map, in_mapped, before_all}
+use Rattle.om_graph.proofs.Adding.{interned_behind}
+use Rattle.om_graph.proofs.NodeRanges.{none_stand_last}
+use Rattle.om_graph.proofs.Orders.{key_order}
 use Rattle.om_graph.proofs.PartSizes.{fused_some}
 use Rattle.om_graph.proofs.SetNodes.{NodeIs, node_is, in_by_number}
 use Rattle.om_graph.proofs.SetNodes.NodeIs.{a_leg, a_join}
 use Rattle.om_graph.proofs.SetOrder.{IsBefore, IsInner, key_before, from_in-least, from_in-most, from_rises, outward_rise, outward_large, in_outward, ready}
 use Rattle.om_graph.proofs.Steps.{in_from}
 use Rattle.om_graph.proofs.TreeSplits.{all_holds}
+
+map_append : {A B : Type 0} (f : A → B) (xs ys : List A) → map f (xs ++ ys) ≡ map f xs ++ map f ys
+map_append f [] ys = refl
+map_append f (x ∷ xs) ys = ap (λ zs. f x ∷ zs) (map_append f xs ys)
 
 -- the sets of one leg
 pub leg_sets : ℕ → List ℕ
@@ -232,3 +239,38 @@ module _ (r : Reaction) (kinds : Kinds) (is : IsReaction r kinds) where
         most = IsSubset_le (leg_set node.0) (sets.all_legs r.scattering.size) (IsLegSet-all_legs r.scattering.size) (IsSubset_from (leg_set node.0) (sets.all_legs r.scattering.size) (IsLegSet-set_of (holds node.0)) (λ leg e. all_holds r.scattering.size leg is.most ∙ some_held node.0 y leg (sym (has.held leg) ∙ e)));
         outward = outward_of r kinds is node.0 y s.0.light;
       })))
+
+-- ---- the legs, one by one
+
+module _ (r : Reaction) where
+  pub no_legs : [] ≡ map (leg_key r) (counts_from 1 0)
+  unfolding counts_from
+  no_legs = refl
+
+  leg_new : (k : ℕ) → 1 ≤ k → k ≤ 12 → (x : Key) → In x (map (leg_key r) (counts_from 1 (k - 1))) → x.legs ≡ sets.set_of_one k → ⊥
+  leg_new k l m x i e =
+      let f = in_mapped (leg_key r) x (counts_from 1 (k - 1)) i in
+      let a = from_in-least 1 (k - 1) f.0 f.1 in
+      let b = from_in-most 1 (k - 1) f.0 f.1 in
+      let g = one_rises f.0 k a (omega (arith, b, l)) m in
+      let h = ap (λ (y : Key). y.legs) f.2 in
+      omega (arith, e, g, h)
+
+  -- no node has the set of the leg that comes next
+  pub leg_stands : (ns : List Key) (k : ℕ) (key : Key) → ns ≡ map (leg_key r) (counts_from 1 (k - 1)) → 1 ≤ k → k ≤ 12 → key ≡ leg_key r k → StandLast ns key.legs
+  leg_stands ns k key e l m q =
+      subst (λ (x : Key). StandLast ns x.legs) (sym q) (subst (λ (ms : List Key). StandLast ms (sets.set_of_one k)) (sym e) (none_stand_last (map (leg_key r) (counts_from 1 (k - 1))) (sets.set_of_one k) (leg_new k l m)))
+
+  map_more : (a n : ℕ) → map (leg_key r) (counts_from a (suc n)) ≡ map (leg_key r) (counts_from a n) ++ leg_key r (a + n) ∷ []
+  unfolding counts_from
+  map_more a n = map_append (leg_key r) (counts_from a n) ((a + n) ∷ [])
+
+  pub leg_more : (ns ms : List Key) (k : ℕ) (key : Key) → ns ≡ map (leg_key r) (counts_from 1 (k - 1)) → 1 ≤ k → k ≤ 12 → key ≡ leg_key r k → ms ≡ interned key_lt ns key → ms ≡ map (leg_key r) (counts_from 1 (k + 1 - 1))
+  leg_more ns ms k key e l m q g =
+      let a : suc (k - 1) ≡ k + 1 - 1 = omega (arith, l) in
+      let b : 1 + (k - 1) ≡ k = omega (arith, l) in
+      g ∙ ap₂ (λ (xs : List Key) (x : Key). interned key_lt xs x) e q
+      ∙ interned_behind key_lt key_order (map (leg_key r) (counts_from 1 (k - 1))) (leg_key r k) (λ i. leg_new k l m (leg_key r k) i refl)
+      ∙ ap (λ j. map (leg_key r) (counts_from 1 (k - 1)) ++ leg_key r j ∷ []) (sym b)
+      ∙ sym (map_more 1 (k - 1))
+      ∙ ap (λ n. map (leg_key r) (counts_from 1 n)) a

@@ -47,3 +47,5 @@ pub mod AddedSigns
 pub mod SplitLists
 pub mod SignedLists
 pub mod SetStep
+pub mod KeyStep
+pub mod WholeGraph

@@ -11,7 +11,6 @@ use Rattle.om_legs.specs.Legs.{IsLegSet, complement}
 use Rattle.om_legs.specs.Splits.{AreSplits}
 use Rattle.om_legs.specs.Walks.{pairs, triples}
 use Rattle.om_legs.proofs.Exact.{AreSplits-pairs, AreSplits-triples}
-use Rattle.om_legs.proofs.Members.{In-get_or}
 use Rattle.om_model.specs.Order.{IsOrder, rising_of}
 use Rattle.om_model.proofs.EdgesUncut.{both_true}
 use Rattle.om_graph.specs.declared.BuildFault.{BuildFault}
@@ -38,22 +37,13 @@ use Rattle.om_graph.proofs.Meetable.{can_meet}
 use Rattle.om_graph.proofs.MeetingFields.{same_count}
 use Rattle.om_graph.proofs.NodeRanges.{none_stand_last}
 use Rattle.om_graph.proofs.Orders.{key_order}
-use Rattle.om_graph.proofs.SignedLists.{MadeBy, found_where, length_at_numbers, made_by}
+use Rattle.om_graph.proofs.SignedLists.{MadeBy, all_of_members, found_where, length_at_numbers, made_by, take_shorter}
 use Rattle.om_graph.proofs.Sorted.{sorted_is_rising, sorted_map}
 use Rattle.om_graph.proofs.Numbers.{found_order}
 use Rattle.om_graph.proofs.SplitMembers.{is_search, found_once}
 use Rattle.om_graph.proofs.SplitLists.{same_splits}
 use Rattle.om_graph.proofs.Splits.{steps_count}
 use Rattle.om_graph.proofs.Tuples.{from_flat_map}
-
--- each of a list, by its members
-pub all_of_members : {A : Type 0} (P : A → Type 0) (xs : List A) → ((x : A) → In x xs → P x) → All P xs
-all_of_members P xs h k d l = h (get_or xs k d) (In-get_or xs k d l)
-
-take_shorter : {A : Type 0} (n : ℕ) (xs : List A) → length (take n xs) ≤ n
-take_shorter zero xs = omega arith
-take_shorter (suc n) [] = omega arith
-take_shorter (suc n) (x ∷ xs) = let l = take_shorter n xs in omega (arith, l)
 
 -- how nodes with these keys make what was found
 record FusedBy (r : Reaction) (is : List ℕ) (ks : List Key) (x : Signed Key) : Type 0 where

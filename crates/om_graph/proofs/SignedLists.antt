@@ -1,9 +1,11 @@
 -- What the loops find, without its signs, is what the search finds; and of each that is found, the nodes that make it.
-use Rattle.std.proofs.Common.{◌≡◌, ℕ, suc, ◌+◌, List, [], ◌∷◌, ◌++◌, map, flat_map, length, Bool, true, false, cond, ◌⊎◌, inl, inr, refl, ap, ap₂, sym, subst, ◌∙◌, arith, Option, Some, None, slice_get}
+use Rattle.std.proofs.Common.{◌≡◌, ℕ, zero, suc, ◌+◌, ◌≤◌, List, [], ◌∷◌, ◌++◌, map, flat_map, length, take, get_or, Bool, true, false, cond, ◌⊎◌, inl, inr, refl, ap, ap₂, sym, subst, ◌∙◌, arith, Option, Some, None, slice_get}
 use Rattle.std.specs.List.{filter}
+use Rattle.std.specs.Prelude.{All}
 use Rattle.std.proofs.lemmas.List.Concat.{flat_map-append}
 use Rattle.std.proofs.lemmas.Option.{same_Some}
 use Rattle.om_ring.specs.Members.{In}
+use Rattle.om_legs.proofs.Members.{In-get_or}
 use Rattle.om_graph.specs.declared.Key.{Key}
 use Rattle.om_graph.specs.Graph.{Found, and_then, at_numbers}
 use Rattle.om_graph.specs.Loops.{Signed}
@@ -28,6 +30,15 @@ length_at_numbers xs (i ∷ is) ks e =
     let a = then_some (slice_get xs i) (λ x. and_then (at_numbers xs is) (λ zs. Some (x ∷ zs))) ks e in
     let b = then_some (at_numbers xs is) (λ zs. Some (a.0 ∷ zs)) ks a.2 in
     ap suc (length_at_numbers xs is b.0 b.1) ∙ ap length (same_Some (a.0 ∷ b.0) ks b.2)
+
+-- each of a list, by its members
+pub all_of_members : {A : Type 0} (P : A → Type 0) (xs : List A) → ((x : A) → In x xs → P x) → All P xs
+all_of_members P xs h k d l = h (get_or xs k d) (In-get_or xs k d l)
+
+pub take_shorter : {A : Type 0} (n : ℕ) (xs : List A) → length (take n xs) ≤ n
+take_shorter zero xs = omega arith
+take_shorter (suc n) [] = omega arith
+take_shorter (suc n) (x ∷ xs) = let l = take_shorter n xs in omega (arith, l)
 
 module _ {M : Type 0} (meet : List ℕ → List Key → List (Signed M)) (ns : List Key) where
   abbrev pub without_signs : List ℕ → List Key → List (Found M)

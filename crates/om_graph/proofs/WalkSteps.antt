@@ -1,6 +1,8 @@
 -- Walks over sets, one after the other.
-use Rattle.std.proofs.Common.{◌≡◌, ℕ, zero, suc, ◌+◌, ◌-◌, ◌<◌, ◌≤◌, List, [], ◌∷◌, ◌++◌, map, flat_map, length, refl, ap, ap₂, sym, subst, ◌∙◌, arith, append-nil, append_assoc}
+use Rattle.std.proofs.Common.{◌≡◌, ℕ, zero, suc, ◌+◌, ◌-◌, ◌/◌, ◌<◌, ◌≤◌, List, [], ◌∷◌, ◌++◌, map, flat_map, length, Bool, true, false, cond, eqb, ◌&&◌, refl, ap, ap₂, sym, subst, ◌∙◌, arith, append-nil, append_assoc}
 use Rattle.std.proofs.lemmas.List.Concat.{flat_map-append}
+use Rattle.om_legs.specs.Legs.{all_legs, size}
+use Rattle.om_model.proofs.Counting.{both}
 use Rattle.om_graph.specs.declared.Key.{Key}
 use Rattle.om_graph.specs.declared.Term.{Term}
 use Rattle.om_graph.specs.declared.TheConstants.{MOST_TERMS}
@@ -8,9 +10,9 @@ use Rattle.om_graph.specs.Caches.{counts_from}
 use Rattle.om_graph.specs.Fusion.{Fusion}
 use Rattle.om_graph.specs.Possible.{state_of}
 use Rattle.om_graph.specs.Search.{Search, State, HasDone, Ready, all_done, step, walk}
-use Rattle.om_graph.specs.SetSearch.{set_search}
+use Rattle.om_graph.specs.SetSearch.{outward_sets, set_at, set_search, sets_of_size}
 use Rattle.om_graph.specs.SetWalk.{CanWalk, HasWalked, HaveSigns}
-use Rattle.om_graph.specs.Vertices.{Reaction, fusion}
+use Rattle.om_graph.specs.Vertices.{Reaction, fusion, is_outward}
 use Rattle.om_graph.proofs.Orders.{key_order}
 use Rattle.om_graph.proofs.SplitMembers.{is_search, found_once}
 use Rattle.om_graph.proofs.Splits.{steps_count}
@@ -145,3 +147,25 @@ module _ (r : Reaction) (ns : List Key) (ts : List Term) (f : ℕ → List ℕ) 
       large_in_range x =
           subst (λ (ss : List ℕ). MOST_TERMS < length (walk (fusion r) (set_search r) (state_of ns ts) ss).terms) (sym (range_split f a k end l m))
           (stays_large r ns ms ts us (flat_map f (counts_from a (k - a))) (f k) (flat_map f (counts_from (suc k) (end - suc k))) whole g x)
+
+-- ---- the sets of the loops
+
+pub sets_are : (n m : ℕ) → sets_of_size n m ≡ flat_map (set_at n m) (counts_from 1 (all_legs n + 1 - 1))
+unfolding sets_of_size
+sets_are n m = refl
+
+pub all_sets_are : (n : ℕ) → outward_sets n ≡ flat_map (sets_of_size n) (counts_from 2 (n / 2 + 1 - 2))
+unfolding outward_sets
+all_sets_are n = refl
+
+-- the set with a number, or none
+tested : (n k m number set : ℕ) (b c : Bool) → set ≡ number → k ≡ n → b ≡ (eqb (size set) m && is_outward k set) → b ≡ c → (eqb (size number) m && is_outward n number) ≡ c
+tested n k m number set b c e f g t = ap₂ (λ x y. eqb (size x) m && is_outward y x) (sym e) (sym f) ∙ sym g ∙ t
+
+pub is_at : (n k m number set : ℕ) (b : Bool) → set ≡ number → k ≡ n → b ≡ (eqb (size set) m && is_outward k set) → b ≡ true → set ∷ [] ≡ set_at n m number
+unfolding set_at
+is_at n k m number set b e f g t = ap (λ x. x ∷ []) e ∙ sym (ap (λ c. cond c (number ∷ []) []) (tested n k m number set b true e f g t))
+
+pub none_at : (n k m number set : ℕ) (b : Bool) → set ≡ number → k ≡ n → b ≡ (eqb (size set) m && is_outward k set) → b ≡ false → [] ≡ set_at n m number
+unfolding set_at
+none_at n k m number set b e f g t = sym (ap (λ c. cond c (number ∷ []) []) (tested n k m number set b false e f g t))

@@ -2,7 +2,8 @@
 use Rattle.om_model.specs.declared.model.Model.{Model}
 use Rattle.om_model.specs.declared.process.Process.{Process}
 use Rattle.om_model.specs.ModelLines.{kinds_of}
-use Rattle.om_graph.specs.WellFormed.{IsWellFormed, IsProcessOf}
+use Rattle.om_model.specs.WellFormed.{IsWellFormed}
+use Rattle.om_model.specs.ProcessOf.{IsProcessOf}
 use Rattle.om_graph.specs.Reactions.{reaction_of}
 use Rattle.om_graph.specs.TreeKeys.{IsReaction}
 

@@ -4,7 +4,6 @@ pub mod Search
 pub mod Tuples
 pub mod Splits
 pub mod Vertices
-pub mod WellFormed
 pub mod Reactions
 pub mod Possible
 pub mod TreeKeys

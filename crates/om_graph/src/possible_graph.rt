@@ -4,7 +4,8 @@ ghost use Rattle.om_graph.specs.Possible.{Builds};
 ghost use Rattle.om_graph.specs.Reactions.{reaction_in, reaction_of};
 ghost use Rattle.om_graph.specs.SetSearch.{leg_keys};
 ghost use Rattle.om_graph.specs.SetWalk.{CanCloseAll, ClosesAll};
-ghost use Rattle.om_graph.specs.WellFormed.{IsProcessOf, IsWellFormed};
+ghost use Rattle.om_model.specs.ProcessOf.{IsProcessOf};
+ghost use Rattle.om_model.specs.WellFormed.{IsWellFormed};
 
 use crate::closings::sort;
 use crate::key_terms::add_key_terms;

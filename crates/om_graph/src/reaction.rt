@@ -5,7 +5,8 @@ ghost use Rattle.om_model.specs.Diagram.{all_in};
 ghost use Rattle.om_model.specs.Model.{colours_of_vertex};
 ghost use Rattle.om_model.specs.Rules.{HasPattern};
 ghost use Rattle.om_graph.specs.Reactions.{is_fermion_leg, reaction_in, HasRows};
-ghost use Rattle.om_graph.specs.WellFormed.{IsProcessOf, IsWellFormed};
+ghost use Rattle.om_model.specs.ProcessOf.{IsProcessOf};
+ghost use Rattle.om_model.specs.WellFormed.{IsWellFormed};
 ghost use Rattle.om_model.specs.Diagrams.{any_in};
 ghost use Rattle.om_model.specs.ModelLines.{is_dirac as is_dirac_of};
 ghost use Rattle.om_graph.specs.Vertices.{is_outward as is_outward_of, keeps_edges as keeps_edges_of, leg_key, lies_in as lies_in_of};
@@ -34,7 +35,8 @@ impl<'a> Model for Reaction<'a> {
     ghost use Rattle.om_model.specs.declared.model.Model.{Model as ModelOf};
     ghost use Rattle.om_model.specs.declared.process.Process.{Process as ProcessOf};
     ghost use Rattle.om_graph.specs.Reactions.{HasRows, fermions_of};
-    ghost use Rattle.om_graph.specs.WellFormed.{IsProcessOf, IsWellFormed};
+    ghost use Rattle.om_model.specs.ProcessOf.{IsProcessOf};
+    ghost use Rattle.om_model.specs.WellFormed.{IsWellFormed};
 
     ghost Value = { ModelOf × ProcessOf };
 

@@ -1,11 +1,11 @@
 //! The walk over the sets of legs that lie away from the keystone, those of fewer legs first.
-ghost use Rattle.std.specs.Prelude.{◌≡◌, ◌∷◌, [], ◌≤◌, ◌<◌, length, OnOk, false, true};
+ghost use Rattle.std.specs.Prelude.{◌≡◌, ◌&&◌, eqb, ◌∷◌, [], ◌≤◌, ◌<◌, length, OnOk, false, true};
 ghost use Rattle.om_graph.specs.Caches.{AreMeetings};
 ghost use Rattle.om_graph.specs.Reactions.{reaction_in};
 ghost use Rattle.om_graph.specs.SetSearch.{outward_sets, set_at, sets_of_size};
 ghost use Rattle.om_graph.specs.SetWalk.{CanWalk, Walks};
 ghost use Rattle.om_graph.specs.Vertices.{is_outward as is_outward_of};
-ghost use Rattle.om_legs.specs.Legs.{IsLegSet};
+ghost use Rattle.om_legs.specs.Legs.{IsLegSet, size as size_of};
 
 use crate::fields::Meetings;
 use crate::fusions::sort;
@@ -78,11 +78,18 @@ fn add_numbered(
     ensures walks { Walks (reaction_in reaction.now) nodes.old terms.old (set_at (reaction_in reaction.now).scattering.size legs number) nodes.new terms.new result }
 {
     let set = LegSet::from_number(number);
-    if set.size() == legs && is_outward(set, reaction.size()) {
+    if is_among(set, legs, reaction.size()) {
         add_set(alloc, reaction, meetings, set, nodes, terms)
     } else {
         Ok(())
     }
+}
+
+// Whether the set has so many legs and lies away from the keystone.
+fn is_among(set: LegSet, legs: u8, size: u8) -> bool
+    ensures { result ≡ (eqb (size_of set) legs && is_outward_of size set) }
+{
+    set.size() == legs && is_outward(set, size)
 }
 
 fn add_set(
