@@ -150,13 +150,19 @@ module _ (r : Reaction) (ns : List Key) (ts : List Term) (f : ℕ → List ℕ) 
 
 -- ---- the sets of the loops
 
-pub sets_are : (n m : ℕ) → sets_of_size n m ≡ flat_map (set_at n m) (counts_from 1 (all_legs n + 1 - 1))
+sets_are : (n m : ℕ) → sets_of_size n m ≡ flat_map (set_at n m) (counts_from 1 (all_legs n + 1 - 1))
 unfolding sets_of_size
 sets_are n m = refl
 
-pub all_sets_are : (n : ℕ) → outward_sets n ≡ flat_map (sets_of_size n) (counts_from 2 (n / 2 + 1 - 2))
+pub sets_in_range : (n m k : ℕ) → k ≡ all_legs n → sets_of_size n m ≡ flat_map (set_at n m) (counts_from 1 (k + 1 - 1))
+sets_in_range n m k e = sets_are n m ∙ ap (λ j. flat_map (set_at n m) (counts_from 1 (j + 1 - 1))) (sym e)
+
+all_sets_are : (n : ℕ) → outward_sets n ≡ flat_map (sets_of_size n) (counts_from 2 (n / 2 + 1 - 2))
 unfolding outward_sets
 all_sets_are n = refl
+
+pub all_in_range : (n k : ℕ) → k ≡ n → outward_sets n ≡ flat_map (sets_of_size n) (counts_from 2 (k / 2 + 1 - 2))
+all_in_range n k e = all_sets_are n ∙ ap (λ j. flat_map (sets_of_size n) (counts_from 2 (j / 2 + 1 - 2))) (sym e)
 
 -- the set with a number, or none
 tested : (n k m number set : ℕ) (b c : Bool) → set ≡ number → k ≡ n → b ≡ (eqb (size set) m && is_outward k set) → b ≡ c → (eqb (size number) m && is_outward n number) ≡ c
