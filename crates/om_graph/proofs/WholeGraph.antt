@@ -17,8 +17,8 @@ use Rattle.om_graph.specs.Fusion.{IsNode}
 use Rattle.om_graph.specs.Graph.{Numbered, IsGraph, at_numbers}
 use Rattle.om_graph.specs.Possible.{IsPossible, flow_lt, key_lt, nodes_at, state_of, term_count, unsigned, unsigned_key}
 use Rattle.om_graph.specs.Search.{HasDone, State, flows_of, numbered, walk}
-use Rattle.om_graph.specs.SetSearch.{all_nodes, closings_of, leg_state, outward_sets, set_search}
-use Rattle.om_graph.specs.SetWalk.{CanCloseAll, CanWalk, HasClosed, HasKeySign, HasTermSign, HaveSigns, KeysHaveSigns}
+use Rattle.om_graph.specs.SetSearch.{all_nodes, closings_of, leg_keys, leg_state, outward_sets, set_search}
+use Rattle.om_graph.specs.SetWalk.{CanCloseAll, CanWalk, HasClosed, HasKeySign, HasTermSign, HasWalked, HaveSigns, KeysHaveSigns}
 use Rattle.om_graph.specs.TreeKeys.{IsReaction}
 use Rattle.om_graph.specs.Vertices.{Reaction, closed_minus, fused_minus, fusion}
 use Rattle.om_graph.proofs.KeyStep.{numbered-length}
@@ -220,3 +220,49 @@ module _ (r : Reaction) (kinds : Kinds) (is : IsReaction r kinds) where
       let b = length-map keys_all (key_term_of r (all_nodes r).nodes) in
       let c = numbered-length (closings_of r (all_nodes r).nodes) ws (closings_once r is.fields (all_nodes r).nodes) in
       omega (arith, a, b, c, l)))
+
+-- ---- what `build` puts together
+
+module _ (r : Reaction) (kinds : Kinds) (is : IsReaction r kinds) (ns : List Key) (ts : List Term) (legs : ns ≡ leg_keys r) (none : ts ≡ []) where
+  begin : state_of ns ts ≡ leg_state r
+  begin = ap₂ (λ (ks : List Key) (us : List Term). state_of ks us) legs none
+
+  pub can_walk : CanWalk r ns ts (outward_sets r.scattering.size)
+  can_walk = can_begin r kinds is ns ts begin none
+
+  pub sets_too_large : MOST_TERMS < length (walk (fusion r) (set_search r) (state_of ns ts) (outward_sets r.scattering.size)).terms → (g : Graph) × IsPossible r g × (MOST_TERMS < term_count g)
+  unfolding all_nodes
+  sets_too_large l =
+      let e = ap (λ (s : State Key). length (walk (fusion r) (set_search r) s (outward_sets r.scattering.size)).terms) begin in
+      too_large r kinds is (omega (arith, l, e))
+
+  module _ (ms : List Key) (us : List Term) (w : HasWalked r ns ts (outward_sets r.scattering.size) ms us) where
+    walked : state_of ms us ≡ all_nodes r
+    unfolding all_nodes
+    walked = w.state ∙ ap (λ (s : State Key). walk (fusion r) (set_search r) s (outward_sets r.scattering.size)) begin
+
+    nodes_are : ms ≡ (all_nodes r).nodes
+    nodes_are = ap (λ (s : State Key). s.nodes) walked
+
+    terms_are : length us ≡ length (all_nodes r).terms
+    terms_are = sym (length-map us unsigned) ∙ ap (λ (s : State Key). length s.terms) walked
+
+    pub can_close : CanCloseAll r ms
+    can_close = can_close_all r kinds is ms nodes_are
+
+    module _ (limit : ℕ) (e : limit ≡ MOST_TERMS - length us) where
+      pub keys_too_large : limit < length (closings_of r ms) → (g : Graph) × IsPossible r g × (MOST_TERMS < term_count g)
+      keys_too_large l =
+          let a = ap (λ (ks : List Key). length (closings_of r ks)) nodes_are in
+          let b = terms_are in
+          let c = w.few in
+          too_large r kinds is (omega (arith, a, b, c, e, l))
+
+      pub whole : (ks : List Key) (ys : List KeyTerm) (vs ws : List Flow) → ks ≡ ms → vs ≡ ws → HasClosed r ms limit ys ws
+          → IsPossible r (record { nodes = ks; terms = us; keys = ys; flows = vs }) × (term_count (record { nodes = ks; terms = us; keys = ys; flows = vs }) ≤ MOST_TERMS)
+      whole ks ys vs ws f g c = (
+        subst (λ (l : List Key). IsPossible r (record { nodes = l; terms = us; keys = ys; flows = vs })) (sym f)
+            (subst (λ (l : List Flow). IsPossible r (record { nodes = ms; terms = us; keys = ys; flows = l })) (sym g) (possible r kinds is ms us limit ys ws walked w.signs c)),
+        (let a = c.few in let b = w.few in omega (arith, a, b, e)),
+      )
+
