@@ -1,0 +1,89 @@
+-- Laws of the canonical graph, as statements.
+use Rattle.std.specs.Prelude.{◌≡◌, ℕ, List, true, Some, slice_get, ◌↔◌}
+use Rattle.om_ring.specs.Members.{In}
+use Rattle.om_ring.specs.Ops.{Ops}
+use Rattle.om_colour.specs.declared.Flow.{Flow}
+use Rattle.om_model.specs.declared.model.Model.{Model}
+use Rattle.om_model.specs.declared.process.Process.{Process}
+use Rattle.om_model.specs.Model.{scattering_of}
+use Rattle.om_model.specs.ModelLines.{colours_of, lines_of}
+use Rattle.om_model.specs.FeynmanRules.{Table}
+use Rattle.om_model.specs.Entries.{feynman_rules}
+use Rattle.om_model.specs.Rules.{IsAccepted}
+use Rattle.om_model.specs.Tree.{Tree, Branches}
+use Rattle.om_model.specs.Tree.Tree.{join}
+use Rattle.om_model.specs.Diagrams.{counts}
+use Rattle.om_model.specs.Opened.{Opened, opened_at_top}
+use Rattle.om_model.specs.ColourLines.{flow_at}
+use Rattle.om_model.specs.Outward.{OutwardEdge, IsOutwardEdge}
+use Rattle.om_model.specs.Event.{Event}
+use Rattle.om_model.specs.Answer.{Answer, IsAnswer}
+use Rattle.om_graph.specs.declared.Graph.{Graph}
+use Rattle.om_graph.specs.declared.Key.{Key}
+use Rattle.om_graph.specs.declared.KeyTerm.{KeyTerm}
+use Rattle.om_graph.specs.declared.Term.{Term}
+use Rattle.om_graph.specs.Graph.{at_numbers}
+use Rattle.om_graph.specs.Possible.{IsPossible, nodes_at}
+use Rattle.om_graph.specs.Reactions.{reaction_of}
+use Rattle.om_graph.specs.WellFormed.{IsWellFormed, IsProcessOf}
+use Rattle.om_keystone.specs.Built.{IsBuilt}
+use Rattle.om_keystone.specs.CanonicalGraph.{IsCanonicalOf}
+use Rattle.om_keystone.specs.NodeWaves.{AreNodeWaves, GraphAnswers}
+
+-- a term of one graph stands in another one: of the same nodes, with the same vertex, choice and sign
+pub record StandsIn (whole part : Graph) (x : Term) : Type 0 where
+  pub term : Term
+  pub is_term : In term whole.terms
+  pub node : slice_get part.nodes x.node ≡ slice_get whole.nodes term.node
+  pub minus : x.minus ≡ term.minus
+  pub vertex : x.vertex ≡ term.vertex
+  pub choice : x.choice ≡ term.choice
+  pub branches : at_numbers part.nodes (nodes_at x.branches) ≡ at_numbers whole.nodes (nodes_at term.branches)
+
+-- and a keystone term
+pub record KeyStandsIn (whole part : Graph) (y : KeyTerm) : Type 0 where
+  pub key : KeyTerm
+  pub is_key : In key whole.keys
+  pub flow : slice_get part.flows y.flow ≡ slice_get whole.flows key.flow
+  pub minus : y.minus ≡ key.minus
+  pub vertex : y.vertex ≡ key.vertex
+  pub choice : y.choice ≡ key.choice
+  pub branches : at_numbers part.nodes (nodes_at y.branches) ≡ at_numbers whole.nodes (nodes_at key.branches)
+
+-- each node, term and keystone term of one graph stands in another one
+pub record IsPartOf (whole part : Graph) : Type 0 where
+  pub nodes : (k : Key) → In k part.nodes → In k whole.nodes
+  pub terms : (x : Term) → In x part.terms → StandsIn whole part x
+  pub keys : (y : KeyTerm) → In y part.keys → KeyStandsIn whole part y
+
+module _ (Holds : Model → Process → Graph → Type 0) where
+  -- said of the canonical graph of each process over a well-formed model
+  abbrev pub OfCanonicalGraphs : Type 0
+  OfCanonicalGraphs = (m : Model) (p : Process) → IsWellFormed m → IsProcessOf m p → (g : Graph) → IsCanonicalOf (reaction_of m p) g → Holds m p g
+
+-- what the canonical graph has stands in the possible graph
+abbrev pub CanonicalIsPartOfPossible : Type 0
+CanonicalIsPartOfPossible = OfCanonicalGraphs (λ m p g. (whole : Graph) → IsPossible (reaction_of m p) whole → IsPartOf whole g)
+
+abbrev pub edge_of : Key → OutwardEdge
+edge_of k = record { legs = k.legs; field = k.field; flow = k.partial }
+
+-- its nodes are just the outward edges of the diagrams that count
+abbrev pub NodesAreEdges : Type 0
+NodesAreEdges = OfCanonicalGraphs (λ m p g. (k : Key) → In k g.nodes ↔ ((t : Tree) × (counts (scattering_of m p) t ≡ true) × IsOutwardEdge (scattering_of m p) (colours_of m) t (edge_of k)))
+
+-- its flows are just their flows
+abbrev pub FlowsAreTheirs : Type 0
+FlowsAreTheirs = OfCanonicalGraphs (λ m p g. (w : Flow) → In w g.flows ↔ ((t : Tree) × (counts (scattering_of m p) t ≡ true) × (w ≡ flow_at (scattering_of m p) (colours_of m) (opened_at_top (scattering_of m p) t))))
+
+-- it can be built node by node
+abbrev pub CanonicalIsBuilt : Type 0
+CanonicalIsBuilt = OfCanonicalGraphs (λ m p g. IsBuilt g)
+
+-- The answer of the canonical graph, with the numbers of any table, is the answer to the event: the sum over all diagrams of each flow is
+-- the sum over its keystone terms, and the poles of the diagrams are those of the inner nodes.
+abbrev pub CanonicalGraphGivesAnswer : {E : Type 0} → Ops E → Type 0
+CanonicalGraphGivesAnswer {E} o =
+    (m : Model) (p : Process) → IsAccepted o m → IsProcessOf m p → (g : Graph) → IsCanonicalOf (reaction_of m p) g
+    → (t : Table E) (e : Event E) (wave : ℕ → ℕ → E) → AreNodeWaves o (scattering_of m p) (feynman_rules o m t) e g wave
+    → (a : Answer E) → GraphAnswers o (scattering_of m p) (feynman_rules o m t) e g wave a ↔ IsAnswer o (scattering_of m p) (feynman_rules o m t) (lines_of m p) e a
