@@ -1,4 +1,4 @@
--- The nodes and flows of the canonical graph, in the words of diagrams.
+-- The nodes, terms, keystone terms and flows of the canonical graph, in the words of diagrams.
 use Rattle.std.proofs.Common.{◌≡◌, List, true, ◌⊎◌, inl, inr, ⊎_elim, refl, ap, sym, subst, ◌∙◌}
 use Rattle.om_ring.specs.Members.{In}
 use Rattle.om_colour.specs.declared.Flow.{Flow}
@@ -28,8 +28,12 @@ use Rattle.om_graph.specs.TreeKeys.{colours_in, IsReaction, key_of}
 use Rattle.om_model.specs.ModelLines.{kinds_of}
 use Rattle.om_graph.specs.Reactions.{reaction_of}
 use Rattle.om_graph.proofs.HaveReactions.{well_formed_have_reactions}
-use Rattle.om_keystone.specs.Laws.{edge_of, NodesAreEdges, FlowsAreTheirs}
-use Rattle.om_graph.proofs.KeysOfSides.{side_of}
+use Rattle.om_graph.specs.declared.Graph.{Graph}
+use Rattle.om_graph.specs.Graph.{Numbered}
+use Rattle.om_keystone.specs.CanonicalGraph.{IsMetAt, IsKeyMetAt}
+use Rattle.om_keystone.specs.Laws.{edge_of, NodesAreEdges, FlowsAreTheirs, IsVertexOf, TermsAreVertices, IsKeystoneOf, KeysAreKeystones}
+use Rattle.std.specs.Prelude.{Some}
+use Rattle.om_graph.proofs.KeysOfSides.{side_of, sides_of}
 use Rattle.om_keystone.proofs.ClosingForms.{forms_of, closes_of}
 
 counts_diagram : (s : Scattering) (t : Tree) → counts s t ≡ true → is_diagram s t ≡ true
@@ -97,6 +101,81 @@ module _ (r : Reaction) (kinds : Kinds) (is : IsReaction r kinds) where
       let q : flow_at s (colours_in r) f.0 ≡ w = opened_has_flow s (colours_in r) is.colours f.0 f.1.opened ∙ ap (λ x. flow_at s (colours_in r) (opened_at_top s x)) f.1.hangs ∙ sym e in
       (f.0, subst (IsOpened (fusion r) f.0) q o)
 
+  -- a vertex of a diagram other than its keystone, by the keys of what meets there
+  module _ (g : Graph) where
+    vertex_is : (x : Numbered) → IsMetAt (fusion r) g.nodes x → IsVertexOf r g x
+    unfolding HasKey
+    vertex_is x h =
+        let met = h.met in
+        let a = met.in_diagram.diagram in
+        let f = (forms_of r kinds is a met.in_diagram.flow met.in_diagram.opened).0 in
+        let t : Tree = join met.field x.vertex x.choice met.branches in
+        let key = (side_of r kinds is t h.node (h.branches, met.have, met.fuse)).1 in
+        let keys = (sides_of r kinds is met.branches h.branches met.have).1 in
+        record {
+          diagram = hung s a;
+          form = a;
+          field = met.field;
+          branches = met.branches;
+          counted = f.counted;
+          is_form = record { opened = f.opened; keystone = f.keystone; hangs = refl };
+          hangs = met.in_diagram.hangs;
+          node = h.is_node ∙ ap Some key;
+          are_branches = h.are_branches ∙ ap Some keys;
+        }
+
+    vertex_met : (x : Numbered) → IsVertexOf r g x → IsMetAt (fusion r) g.nodes x
+    unfolding HasKey
+    vertex_met x v =
+        let a = v.form in
+        let o = closes_of r kinds is a (form_of a v.diagram v.counted v.is_form) in
+        let t : Tree = join v.field x.vertex x.choice v.branches in
+        let j = key_there t a.parts o.keys o.have (stood t a.parts v.hangs) in
+        let key = (side_of r kinds is t j.0 j.1).1 in
+        let keys = (sides_of r kinds is v.branches j.1.0 j.1.1).1 in
+        record {
+          node = j.0;
+          branches = j.1.0;
+          is_node = v.node ∙ ap Some (sym key);
+          are_branches = v.are_branches ∙ ap Some (sym keys);
+          met = record {
+            field = v.field;
+            branches = v.branches;
+            in_diagram = record { diagram = a; flow = flow_at s (colours_in r) a; opened = o; hangs = v.hangs };
+            have = j.1.1;
+            fuse = j.1.2;
+          };
+        }
+
+    keystone_is : (y : Numbered) → IsKeyMetAt (fusion r) g.nodes g.flows y → IsKeystoneOf r g y
+    keystone_is y h =
+        let a : Opened = record { vertex = y.vertex; choice = y.choice; parts = h.met.branches } in
+        let f = forms_of r kinds is a h.flow (record { keys = h.branches; have = h.met.have; close = h.met.close }) in
+        let keys = (sides_of r kinds is h.met.branches h.branches h.met.have).1 in
+        record {
+          diagram = hung s a;
+          form = a;
+          counted = f.0.counted;
+          is_form = record { opened = f.0.opened; keystone = f.0.keystone; hangs = refl };
+          vertex = refl;
+          choice = refl;
+          flow = h.is_flow ∙ ap Some f.1;
+          are_branches = h.are_branches ∙ ap Some keys;
+        }
+
+    keystone_met : (y : Numbered) → IsKeystoneOf r g y → IsKeyMetAt (fusion r) g.nodes g.flows y
+    keystone_met y v =
+        let a = v.form in
+        let o = closes_of r kinds is a (form_of a v.diagram v.counted v.is_form) in
+        let keys = (sides_of r kinds is a.parts o.keys o.have).1 in
+        record {
+          flow = flow_at s (colours_in r) a;
+          branches = o.keys;
+          is_flow = v.flow;
+          are_branches = v.are_branches ∙ ap Some (sym keys);
+          met = record { branches = a.parts; have = o.have; close = subst (λ c. (fusion r).closes y.vertex c o.keys (flow_at s (colours_in r) a)) (sym v.choice) (subst (λ d. (fusion r).closes d a.choice o.keys (flow_at s (colours_in r) a)) (sym v.vertex) o.close) };
+        }
+
 pub nodes_are_edges : NodesAreEdges
 nodes_are_edges m p formed is g canonical k =
     let r = reaction_of m p in
@@ -110,3 +189,17 @@ flows_are_theirs m p formed is g canonical w =
     let reaction = well_formed_have_reactions m p formed is in
     let met = canonical.graph.flows w in
     ((λ h. flow_is r (kinds_of m.particles) reaction w (met.0 h)), (λ h. met.1 (met_is r (kinds_of m.particles) reaction w h.0 h.1 h.2)))
+
+pub terms_are_vertices : TermsAreVertices
+terms_are_vertices m p formed is g canonical x =
+    let r = reaction_of m p in
+    let reaction = well_formed_have_reactions m p formed is in
+    let met = canonical.graph.terms x in
+    ((λ h. vertex_is r (kinds_of m.particles) reaction g x (met.0 h)), (λ h. met.1 (vertex_met r (kinds_of m.particles) reaction g x h)))
+
+pub keys_are_keystones : KeysAreKeystones
+keys_are_keystones m p formed is g canonical y =
+    let r = reaction_of m p in
+    let reaction = well_formed_have_reactions m p formed is in
+    let met = canonical.graph.keys y in
+    ((λ h. keystone_is r (kinds_of m.particles) reaction g y (met.0 h)), (λ h. met.1 (keystone_met r (kinds_of m.particles) reaction g y h)))

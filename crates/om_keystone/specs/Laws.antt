@@ -1,5 +1,5 @@
 -- Laws of the canonical graph, as statements.
-use Rattle.std.specs.Prelude.{◌≡◌, ℕ, List, true, Some, slice_get, ◌↔◌}
+use Rattle.std.specs.Prelude.{◌≡◌, ℕ, List, map, true, Some, slice_get, ◌↔◌}
 use Rattle.om_ring.specs.Members.{In}
 use Rattle.om_ring.specs.Ops.{Ops}
 use Rattle.om_colour.specs.declared.Flow.{Flow}
@@ -15,16 +15,19 @@ use Rattle.om_model.specs.Tree.Tree.{join}
 use Rattle.om_model.specs.Diagrams.{counts}
 use Rattle.om_model.specs.Opened.{Opened, opened_at_top}
 use Rattle.om_model.specs.ColourLines.{flow_at}
-use Rattle.om_model.specs.Outward.{OutwardEdge, IsOutwardEdge}
+use Rattle.om_model.specs.KeystoneForm.{IsKeystoneForm}
+use Rattle.om_model.specs.Outward.{OutwardEdge, IsOutwardEdge, subtrees_all}
 use Rattle.om_model.specs.Event.{Event}
 use Rattle.om_model.specs.Answer.{Answer, IsAnswer}
 use Rattle.om_graph.specs.declared.Graph.{Graph}
 use Rattle.om_graph.specs.declared.Key.{Key}
 use Rattle.om_graph.specs.declared.KeyTerm.{KeyTerm}
 use Rattle.om_graph.specs.declared.Term.{Term}
-use Rattle.om_graph.specs.Graph.{at_numbers}
-use Rattle.om_graph.specs.Possible.{IsPossible, nodes_at}
+use Rattle.om_graph.specs.Graph.{at_numbers, Numbered}
+use Rattle.om_graph.specs.Possible.{IsPossible, nodes_at, unsigned, unsigned_key}
 use Rattle.om_graph.specs.Reactions.{reaction_of}
+use Rattle.om_graph.specs.TreeKeys.{colours_in, key_of, keys_of}
+use Rattle.om_graph.specs.Vertices.{Reaction}
 use Rattle.om_graph.specs.WellFormed.{IsWellFormed, IsProcessOf}
 use Rattle.om_keystone.specs.Built.{IsBuilt}
 use Rattle.om_keystone.specs.CanonicalGraph.{IsCanonicalOf}
@@ -75,6 +78,37 @@ NodesAreEdges = OfCanonicalGraphs (λ m p g. (k : Key) → In k g.nodes ↔ ((t 
 -- its flows are just their flows
 abbrev pub FlowsAreTheirs : Type 0
 FlowsAreTheirs = OfCanonicalGraphs (λ m p g. (w : Flow) → In w g.flows ↔ ((t : Tree) × (counts (scattering_of m p) t ≡ true) × (w ≡ flow_at (scattering_of m p) (colours_of m) (opened_at_top (scattering_of m p) t))))
+
+-- a vertex of a diagram that counts, other than its keystone, at which these nodes meet by this choice and make this node
+pub record IsVertexOf (r : Reaction) (g : Graph) (x : Numbered) : Type 0 where
+  pub diagram : Tree
+  pub form : Opened
+  pub field : ℕ
+  pub branches : Branches
+  pub counted : counts r.scattering diagram ≡ true
+  pub is_form : IsKeystoneForm r.scattering diagram form
+  pub hangs : In (join field x.vertex x.choice branches) (subtrees_all form.parts)
+  pub node : slice_get g.nodes x.made ≡ Some (key_of r (join field x.vertex x.choice branches))
+  pub are_branches : at_numbers g.nodes x.branches ≡ Some (keys_of r branches)
+
+-- its terms are just these vertices
+abbrev pub TermsAreVertices : Type 0
+TermsAreVertices = OfCanonicalGraphs (λ m p g. (x : Numbered) → In x (map unsigned g.terms) ↔ IsVertexOf (reaction_of m p) g x)
+
+-- the keystone of a diagram that counts, at which these nodes meet by this choice and make this flow
+pub record IsKeystoneOf (r : Reaction) (g : Graph) (y : Numbered) : Type 0 where
+  pub diagram : Tree
+  pub form : Opened
+  pub counted : counts r.scattering diagram ≡ true
+  pub is_form : IsKeystoneForm r.scattering diagram form
+  pub vertex : y.vertex ≡ form.vertex
+  pub choice : y.choice ≡ form.choice
+  pub flow : slice_get g.flows y.made ≡ Some (flow_at r.scattering (colours_in r) form)
+  pub are_branches : at_numbers g.nodes y.branches ≡ Some (keys_of r form.parts)
+
+-- its keystone terms are just these keystones
+abbrev pub KeysAreKeystones : Type 0
+KeysAreKeystones = OfCanonicalGraphs (λ m p g. (y : Numbered) → In y (map unsigned_key g.keys) ↔ IsKeystoneOf (reaction_of m p) g y)
 
 -- it can be built node by node
 abbrev pub CanonicalIsBuilt : Type 0

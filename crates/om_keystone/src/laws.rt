@@ -1,5 +1,5 @@
 //! Laws of the canonical graph. Each is the contract of a function that does nothing.
-ghost use Rattle.om_keystone.specs.Laws.{CanonicalGraphGivesAnswer, CanonicalIsBuilt, CanonicalIsPartOfPossible, FlowsAreTheirs, NodesAreEdges};
+ghost use Rattle.om_keystone.specs.Laws.{CanonicalGraphGivesAnswer, CanonicalIsBuilt, CanonicalIsPartOfPossible, FlowsAreTheirs, KeysAreKeystones, NodesAreEdges, TermsAreVertices};
 
 use om_ring::Ring;
 
@@ -8,9 +8,12 @@ pub fn canonical_is_part_of_possible()
     ensures { CanonicalIsPartOfPossible }
 {}
 
-/// The nodes of the canonical graph are the outward edges of the diagrams of the process, and its flows are theirs.
-pub fn nodes_are_edges()
+/// The canonical graph is made of the diagrams that count alone: its nodes are their outward edges, its terms their vertices other than
+/// keystones, its keystone terms their keystones, and its flows their flows.
+pub fn canonical_graph_is_of_diagrams()
     ensures nodes { NodesAreEdges }
+    ensures terms { TermsAreVertices }
+    ensures keys { KeysAreKeystones }
     ensures flows { FlowsAreTheirs }
 {}
 
