@@ -13,7 +13,8 @@ use Rattle.om_graph.specs.Graph.{Numbered}
 use Rattle.om_keystone.specs.CanonicalGraph.{IsCanonicalGraph}
 use Rattle.om_keystone.proofs.Reaching.{BranchesFirst, IsBuiltUp}
 use Rattle.om_keystone.proofs.KeyedAnswer.{IsInner}
-use Rattle.om_keystone.proofs.Numbers.{in_by_number, at_of, of_at, at_number, at_all, number_less}
+use Rattle.om_keystone.proofs.Numbers.{at_of, of_at, at_number, at_all, number_less}
+use Rattle.om_graph.proofs.SetNodes.{in_by_number}
 use Rattle.om_keystone.proofs.Reached.{prune_is_exact}
 
 module _ {K F : Type 0} (p : Fusion K F) (lt : K → K → Bool) (order : IsOrder lt) (before : F → F → Bool) (rank : K → ℕ) (ok : IsSettled p rank) (first : BranchesFirst p lt)

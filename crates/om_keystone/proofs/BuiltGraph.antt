@@ -2,6 +2,7 @@
 use Rattle.std.proofs.Common.{◌≡◌, ℕ, zero, suc, ◌+◌, ◌<◌, ◌≤◌, List, [], ◌∷◌, map, length, filter, true, false, inl, inr, refl, ap, sym, subst, ◌∙◌, arith, true≢false}
 use Rattle.std.specs.Prelude.{Some, slice_get, ◌==◌}
 use Rattle.std.specs.List.{AllByRecursion}
+use Rattle.std.proofs.lemmas.Bool.{eqb-true}
 use Rattle.std.proofs.lemmas.Bool.Decides.{nat_tests}
 use Rattle.std.proofs.lemmas.Option.{same_Some}
 use Rattle.om_ring.specs.Members.{In}
@@ -26,7 +27,7 @@ use Rattle.om_keystone.specs.CanonicalGraph.{IsCanonicalOf}
 use Rattle.om_keystone.specs.Laws.{CanonicalIsBuilt}
 use Rattle.om_keystone.proofs.Built.{is_built_up}
 use Rattle.om_keystone.proofs.KeyedAnswer.{IsInner}
-use Rattle.om_keystone.proofs.Members.{in_mapped}
+use Rattle.om_graph.proofs.Lists.{in_mapped}
 use Rattle.om_keystone.proofs.Nodes.{leg_or_inner}
 use Rattle.om_keystone.proofs.ReachedPart.{made_rises}
 use Rattle.om_keystone.proofs.Reaching.{IsBuiltUp}
@@ -43,9 +44,6 @@ some_in x (y ∷ xs) i = omega arith
 none_in : {A : Type 0} (xs : List A) → ((x : A) → In x xs → ⊥) → xs ≡ []
 none_in [] h = refl
 none_in (x ∷ xs) h = absurd (h x (inl refl))
-
-same_number : (m n : ℕ) → (m == n) ≡ true → m ≡ n
-same_number m n e = grind (arith, nat_tests)
 
 -- what holds of each node by its number, node by node
 nodes_from : (terms : List Term) (k : ℕ) (nodes : List Key)
@@ -91,7 +89,7 @@ module _ (r : Reaction) (kinds : Kinds) (is : IsReaction r kinds) (g : Graph) (c
         some_in term.0 (filter (λ t. t.node == n) g.terms) ((in_filter (λ t. t.node == n) term.0 g.terms).1 (term.1, there)),
         all_by (IsBelow n) (filter (λ t. t.node == n) g.terms) (λ t i.
             let f = (in_filter (λ t. t.node == n) t g.terms).0 i in
-            all_by (λ b. b < n) (nodes_at t.branches) (λ b j. subst (λ m. b < m) (same_number t.node n f.1) (built_up.lower (unsigned t) (in_map unsigned t g.terms f.0) b j))),
+            all_by (λ b. b < n) (nodes_at t.branches) (λ b j. subst (λ m. b < m) (eqb-true t.node n f.1) (built_up.lower (unsigned t) (in_map unsigned t g.terms f.0) b j))),
       )
 
   leg_built : (n : ℕ) (node : Key) → slice_get g.nodes n ≡ Some node → is_inner node ≡ false → terms_at g.terms n ≡ []
@@ -99,7 +97,7 @@ module _ (r : Reaction) (kinds : Kinds) (is : IsReaction r kinds) (g : Graph) (c
   leg_built n node e leg = none_in (filter (λ t. t.node == n) g.terms) (λ t i.
       let f = (in_filter (λ t. t.node == n) t g.terms).0 i in
       let met = (canonical.graph.terms (unsigned t)).0 (in_map unsigned t g.terms f.0) in
-      let same : met.node ≡ node = same_Some met.node node (sym met.is_node ∙ ap (slice_get g.nodes) (same_number t.node n f.1) ∙ e) in
+      let same : met.node ≡ node = same_Some met.node node (sym met.is_node ∙ ap (slice_get g.nodes) (eqb-true t.node n f.1) ∙ e) in
       let many = (is_settled r kinds is).fused_rank met.met.field t.vertex t.choice met.branches met.node met.met.fuse in
       let inner : is_inner met.node ≡ true = grind (arith, nat_tests) in
       true≢false (sym inner ∙ ap is_inner same ∙ leg))

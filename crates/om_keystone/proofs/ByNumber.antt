@@ -23,6 +23,10 @@ use Rattle.om_graph.specs.Fusion.{Fusion}
 use Rattle.om_keystone.specs.InDiagrams.{Term, KeyTerm, IsMet, IsKeyMet}
 use Rattle.om_keystone.proofs.Reaching.{Reached, PruneIsExact, IsSettled}
 use Rattle.om_keystone.proofs.Reaching.Reached.{from_key, from_term}
+use Rattle.om_model.proofs.FormSums.{rising_different}
+use Rattle.std.proofs.lemmas.Bool.{eqb-true, eq-eqb}
+use Rattle.om_graph.specs.Search.{place}
+use Rattle.om_graph.proofs.Places.{place_gets}
 use Rattle.om_graph.specs.Graph.{Numbered, at_numbers, numbered_lt}
 use Rattle.om_keystone.specs.CanonicalGraph.{IsMetAt, IsKeyMetAt, IsCanonicalGraph}
 use Rattle.om_keystone.proofs.KeyedWaves.{KeyRules, meet, term_value, key_value, AreNodeWaves}
@@ -33,7 +37,8 @@ use Rattle.om_keystone.specs.NodeWaves.{one_or_none, keys_at, indices_at, meet_a
 use Rattle.om_keystone.proofs.Members.{from_flat_map, different_flat_map}
 use Rattle.om_keystone.proofs.Reached.{prune_is_exact}
 use Rattle.om_keystone.proofs.Grown.{same_by_is, is_same_by}
-use Rattle.om_keystone.proofs.Numbers.{keys_are, number_of, in_by_number, At, at_of, of_at, at_all, number_once}
+use Rattle.om_keystone.proofs.Numbers.{keys_are, At, at_of, of_at, at_all, number_once}
+use Rattle.om_graph.proofs.SetNodes.{number_of, in_by_number}
 use Rattle.om_keystone.proofs.Numbers.At.{at_none, at_more}
 use Rattle.om_keystone.proofs.GraphLaw.{are_terms, are_keys, is_answer}
 
@@ -42,28 +47,7 @@ unfolding numbered_lt
 numbered_irreflexive x = numbers_order.irreflexive (x.made ∷ x.vertex ∷ x.choice ∷ x.branches)
 
 numbered_differ : (xs : List Numbered) → Rising numbered_lt xs → Different xs
-numbered_differ [] r = tt
-numbered_differ (x ∷ xs) r = ((λ i. true≢false (sym (before xs r.0 i) ∙ numbered_irreflexive x)), numbered_differ xs r.1)
-  where
-    before : (ys : List Numbered) → BeforeAll numbered_lt x ys → In x ys → numbered_lt x x ≡ true
-    before [] b i = absurd i
-    before (y ∷ ys) b (inl e) = ap (numbered_lt x) e ∙ b.0
-    before (y ∷ ys) b (inr i) = before ys b.1 i
-
--- the number of a member
-unfoldable place : {A : Type 0} → (A → A → Bool) → List A → A → ℕ
-place lt [] x = 0
-place lt (y ∷ ys) x = cond (same_by lt y x) 0 (suc (place lt ys x))
-
-place_gets : {A : Type 0} (lt : A → A → Bool) → IsOrder lt → (xs : List A) (x : A) → In x xs → slice_get xs (place lt xs x) ≡ Some x
-unfolding place
-place_gets lt o [] x i = absurd i
-place_gets {A} lt o (y ∷ ys) x i = by (same_by lt y x) refl i (place_gets lt o ys x)
-  where
-    by : (b : Bool) → same_by lt y x ≡ b → (x ≡ y) ⊎ In x ys → (In x ys → slice_get ys (place lt ys x) ≡ Some x) → slice_get (y ∷ ys) (cond b 0 (suc (place lt ys x))) ≡ Some x
-    by true e i ih = ap Some (same_by_is lt o y x e)
-    by false e (inl q) ih = absurd (true≢false (sym (is_same_by lt o y x (sym q)) ∙ e))
-    by false e (inr i) ih = ih i
+numbered_differ = rising_different numbered_lt numbered_irreflexive
 
 -- two sums over what lists are made of
 sum_both : {A B E : Type 0} (o : Ops E) (f : B → E) (g : A → E) (to : A → List B) (q : B → Bool) (r : A → Bool) (xs : List A) → ((x : A) → In x xs → (b : B) × (to x ≡ b ∷ []) × (q b ≡ r x) × (r x ≡ true → f b ≡ g x))
@@ -78,12 +62,6 @@ sum_both {A} {B} {E} o f g to q r (x ∷ xs) h =
         → sum_over o (cond (q t) (t ∷ filter q (flat_map to xs)) (filter q (flat_map to xs))) f ≡ sum_over o (cond b (x ∷ filter r xs) (filter r xs)) g
     by true t e k ih = ap (λ c. sum_over o (cond c (t ∷ filter q (flat_map to xs)) (filter q (flat_map to xs))) f) e ∙ ap₂ o.plus (k refl) ih
     by false t e k ih = ap (λ c. sum_over o (cond c (t ∷ filter q (flat_map to xs)) (filter q (flat_map to xs))) f) e ∙ ih
-
-eqb_is : (a b : ℕ) → eqb a b ≡ true → a ≡ b
-eqb_is a b h = grind (arith, nat_tests)
-
-is_eqb : (a b : ℕ) → a ≡ b → eqb a b ≡ true
-is_eqb a b h = grind (arith, nat_tests)
 
 module _ {K F : Type 0} (p : Fusion K F) (lt : K → K → Bool) (order : IsOrder lt) (before : F → F → Bool) (flow_order : IsOrder before) (rank : K → ℕ) (ok : IsSettled p rank)
     (ns : List K) (ts ys : List Numbered) (ws : List F) (graph : IsCanonicalGraph p lt before ns ts ys ws) where
@@ -227,7 +205,7 @@ module _ {K F : Type 0} (p : Fusion K F) (lt : K → K → Bool) (order : IsOrde
 
     node_is : (n : ℕ) (k : K) (i : ℕ) → slice_get ns n ≡ Some k → node k i ≡ wave n i
     unfolding node
-    node_is n k i e = ap (λ m. wave m i) (number_once lt order ns graph.nodes_rise (place lt ns k) n k (place_gets lt order ns k (in_by_number ns n k e)) e)
+    node_is n k i e = ap (λ m. wave m i) (number_once lt order ns graph.nodes_rise (place lt ns k) n k (place_gets lt order k ns (in_by_number ns n k e)) e)
 
     meet_same : {is : List ℕ} {ks : List K} → At ns is ks → (entry : List ℕ → E) → meet o rules node ks entry ≡ meet_at o rules.indices ns wave is entry
     unfolding meet meet_at
@@ -259,17 +237,17 @@ module _ {K F : Type 0} (p : Fusion K F) (lt : K → K → Bool) (order : IsOrde
         both false false u v = refl
         both true false u v =
             let q : x ≡ y = same_by_is le t x y u in
-            sym (sym v ∙ is_eqb m n (number_once le t xs r m n y (e ∙ ap Some q) g))
+            sym (sym v ∙ eq-eqb m n (number_once le t xs r m n y (e ∙ ap Some q) g))
         both false true u v =
-            let q : m ≡ n = eqb_is m n v in
+            let q : m ≡ n = eqb-true m n v in
             sym u ∙ is_same_by le t x y (same_Some x y (sym e ∙ ap (slice_get xs) q ∙ g))
 
     waves_same : AreWavesAt o rules ns p ts wave → AreNodeWaves o rules p (λ k. In k ns) (terms_of lt xs) node
     unfolding node xs keyed
     waves_same w = record {
-      at_leg = λ j i low high h. w.at_leg (place lt ns (p.leg j)) j i (place_gets lt order ns (p.leg j) h) low high;
+      at_leg = λ j i low high h. w.at_leg (place lt ns (p.leg j)) j i (place_gets lt order (p.leg j) ns h) low high;
       at_inner = λ k h inner i.
-          let e = place_gets lt order ns k h in
+          let e = place_gets lt order k ns h in
           w.at_inner (place lt ns k) k e inner i
           ∙ sum_over-ext o (rules.indices k) _ (λ j. o.times (rules.propagator k i j) (sum_over o (terms_of lt xs k) (λ x. term_value o rules p node x j))) (λ j.
           ap (o.times (rules.propagator k i j)) (sym (sum_both o (λ x. term_value o rules p node x j) (λ x. term_value_at o rules ns wave k x j) term_at (λ (x : Term K). same_by lt x.node k) (λ (x : Numbered). eqb x.made (place lt ns k)) ts
@@ -278,7 +256,7 @@ module _ {K F : Type 0} (p : Fusion K F) (lt : K → K → Bool) (order : IsOrde
             keyed x m,
             term_is x m,
             same_test lt ns order graph.nodes_rise x.made (place lt ns k) m.node k m.is_node e,
-            λ c. let q : m.node ≡ k = same_Some m.node k (sym m.is_node ∙ ap (slice_get ns) (eqb_is x.made (place lt ns k) c) ∙ e) in term_same x m j ∙ ap (λ b. term_value_at o rules ns wave b x j) q,
+            λ c. let q : m.node ≡ k = same_Some m.node k (sym m.is_node ∙ ap (slice_get ns) (eqb-true x.made (place lt ns k) c) ∙ e) in term_same x m j ∙ ap (λ b. term_value_at o rules ns wave b x j) q,
           )))));
     }
 

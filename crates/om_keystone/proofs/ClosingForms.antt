@@ -27,7 +27,7 @@ use Rattle.om_model.proofs.OpenedEdges.{opened_counts}
 use Rattle.om_model.proofs.SpelledFacts.{opened_facts}
 use Rattle.om_keystone.specs.InDiagrams.{IsOpened}
 use Rattle.om_keystone.proofs.Forms.{IsForm}
-use Rattle.om_keystone.proofs.Members.{in_mapped}
+use Rattle.om_graph.proofs.Lists.{in_mapped}
 use Rattle.om_graph.specs.Vertices.{Reaction, Closes, fusion, is_outward, sets_of, keeps_edges, lies_in}
 use Rattle.om_graph.specs.TreeKeys.{colours_in, IsReaction, keys_of}
 use Rattle.om_graph.proofs.TreeSplits.{AllSubtrees, sets_in, split_of, split_ordered, split_whole, whole_times}

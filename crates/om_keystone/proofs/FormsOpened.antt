@@ -31,7 +31,7 @@ use Rattle.om_keystone.proofs.Standing.{Stands, Within}
 use Rattle.om_keystone.proofs.ModelRules.{KeyView, odd_all, IsJoin, AreOpenedDiagrams}
 use Rattle.om_keystone.proofs.ModelRules.IsJoin.{is_join}
 use Rattle.om_keystone.proofs.Forms.{TellsForms}
-use Rattle.om_keystone.proofs.Members.{in_mapped}
+use Rattle.om_graph.proofs.Lists.{in_mapped}
 
 own_edge : (u : Tree) → IsJoin u → In u (edges u)
 unfolding edges
@@ -67,7 +67,7 @@ mutual
   edge_within u (join f v c bs) (inl e) = (inl e, subst IsJoin (sym e) is_join)
   edge_within u (join f v c bs) (inr i) = let r = edge_stands u bs i in (inr r.0, r.1)
 
-counts_diagram : (s : Scattering) (t : Tree) → counts s t ≡ true → is_diagram s t ≡ true
+pub counts_diagram : (s : Scattering) (t : Tree) → counts s t ≡ true → is_diagram s t ≡ true
 unfolding counts
 counts_diagram s t h = (and_parts (is_diagram s t) (all_in (λ set. has_edge s set t) s.edges) h).0
 

@@ -29,21 +29,14 @@ use Rattle.om_keystone.proofs.ModelRules.{KeyView, model_rules, AreSigns, ShowsP
 use Rattle.om_keystone.specs.EdgeRules.{name_of}
 use Rattle.om_keystone.proofs.ModelRules.IsJoin.{is_join}
 use Rattle.om_keystone.proofs.KeyedAnswer.{IsCanonical, same_by, terms_of, keys_of, IsInner, AreWaves, HasPoleNode, graph_values, GraphAnswers}
-use Rattle.om_keystone.proofs.Members.{in_mapped, different_map}
+use Rattle.om_keystone.proofs.Members.{map_map, different_map}
+use Rattle.om_graph.proofs.Lists.{in_mapped}
 use Rattle.om_keystone.proofs.Standing.{standing, stood}
 use Rattle.om_keystone.proofs.Reached.{prune_is_exact, seen_here}
-use Rattle.om_keystone.proofs.Grown.{different_filter, same_by_is, is_same_by}
+use Rattle.om_keystone.proofs.Grown.{same_by_is, is_same_by}
+use Rattle.om_keystone.proofs.Members.{different_filter}
 use Rattle.om_keystone.proofs.NodeSums.{opened_exist, flow_is_sum, minus_zero}
 use Rattle.om_keystone.proofs.ModelWaves.{name_is, signed_wave, are_tree_waves, opened_sum}
-
-pub rising_differ : {A : Type 0} (lt : A → A → Bool) → IsOrder lt → (xs : List A) → Rising lt xs → Different xs
-rising_differ lt o [] r = tt
-rising_differ {A} lt o (x ∷ xs) r = ((λ i. true≢false (sym (before x xs r.0 i) ∙ o.irreflexive x)), rising_differ lt o xs r.1)
-  where
-    before : (x : A) (ys : List A) → BeforeAll lt x ys → In x ys → lt x x ≡ true
-    before x [] b i = absurd i
-    before x (y ∷ ys) b (inl e) = ap (lt x) e ∙ b.0
-    before x (y ∷ ys) b (inr i) = before x ys b.1 i
 
 pub rising_map : {A B : Type 0} (f : A → B) (lt : A → A → Bool) (before : B → B → Bool) → ((x y : A) → lt x y ≡ before (f x) (f y)) → (xs : List A) → Rising lt xs → Rising before (map f xs)
 rising_map f lt before h [] r = tt
@@ -52,10 +45,6 @@ rising_map {A} f lt before h (x ∷ xs) r = (before_all x xs r.0, rising_map f l
     before_all : (x : A) (ys : List A) → BeforeAll lt x ys → BeforeAll before (f x) (map f ys)
     before_all x [] b = tt
     before_all x (y ∷ ys) b = (sym (h x y) ∙ b.0, before_all x ys b.1)
-
-map_map : {A B C : Type 0} (g : B → C) (f : A → B) (xs : List A) → map g (map f xs) ≡ map (λ x. g (f x)) xs
-map_map g f [] = refl
-map_map g f (x ∷ xs) = ap (λ ys. g (f x) ∷ ys) (map_map g f xs)
 
 map_same : {A B : Type 0} (f g : A → B) → ((x : A) → f x ≡ g x) → (xs : List A) → map f xs ≡ map g xs
 map_same f g h [] = refl

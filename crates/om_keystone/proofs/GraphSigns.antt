@@ -1,6 +1,7 @@
 -- The answer that a graph gives with the signs that stand in it is the one by keys.
 use Rattle.std.proofs.Common.{◌≡◌, ℕ, zero, suc, ◌<◌, ◌≤◌, List, [], ◌∷◌, ◌++◌, map, filter, Bool, true, false, cond, ◌⊎◌, inl, inr, ⊎_elim, refl, ap, ap₂, sym, subst, ◌∙◌, ◌↔◌, arith, true≢false}
 use Rattle.std.specs.Prelude.{Option, Some, None, slice_get, ◌==◌, nat_lt, if◌then◌else◌}
+use Rattle.std.proofs.lemmas.Bool.{eqb-true}
 use Rattle.std.proofs.lemmas.Bool.Decides.{nat_tests}
 use Rattle.std.proofs.lemmas.Option.{same_Some}
 use Rattle.om_ring.specs.Members.{In}
@@ -44,7 +45,8 @@ use Rattle.om_keystone.proofs.KeyedWaves.{KeyRules}
 use Rattle.om_keystone.proofs.ModelRules.{model_rules}
 use Rattle.om_keystone.proofs.Nodes.{leg_or_inner, leg_is_leg, inner_is_inner, least_leg}
 use Rattle.om_keystone.proofs.NumberedAnswer.{term_value_at, key_value_at, AreWavesAt, NumberedAnswers, values_at}
-use Rattle.om_keystone.proofs.Numbers.{in_by_number, At, at_of, keys_are}
+use Rattle.om_keystone.proofs.Numbers.{At, at_of, keys_are}
+use Rattle.om_graph.proofs.SetNodes.{in_by_number}
 use Rattle.om_keystone.proofs.View.{key_view, flow_ends}
 use Rattle.om_keystone.proofs.CanonicalOf.{keyed_answers}
 
@@ -57,9 +59,6 @@ sum_changed {E} {A} {B} o f q a b (x ∷ xs) h = by (q (f x)) refl (sum_changed 
         → sum_over o (cond t (x ∷ filter (λ x. q (f x)) xs) (filter (λ x. q (f x)) xs)) a ≡ sum_over o (cond t (f x ∷ filter q (map f xs)) (filter q (map f xs))) b
     by true e ih = ap₂ o.plus (h x (inl refl) e) ih
     by false e ih = ih
-
-same_number : (m n : ℕ) → (m == n) ≡ true → m ≡ n
-same_number m n e = grind (arith, nat_tests)
 
 -- two wave functions that agree at the indices of the nodes meet in the same sum
 meet_agrees : {E K : Type 0} (o : Ops E) (indices : K → List ℕ) (ns : List K) (v w : ℕ → ℕ → E) → ((n : ℕ) (k : K) → slice_get ns n ≡ Some k → (i : ℕ) → In i (indices k) → v n i ≡ w n i)
@@ -101,7 +100,7 @@ module _ {E : Type 0} (o : Ops E) (r : Reaction) (kinds : Kinds) (is : IsReactio
         → term_value o s f e g wave k j x ≡ term_value_at o rules g.nodes (extended wave) k (unsigned x) j
     term_same n k q j x i t =
         let m = (canonical.graph.terms (unsigned x)).0 (in_map unsigned x g.terms i) in
-        let sign = canonical.signs.signs x k m.branches i (ap (slice_get g.nodes) (same_number x.node n t) ∙ q) m.are_branches in
+        let sign = canonical.signs.signs x k m.branches i (ap (slice_get g.nodes) (eqb-true x.node n t) ∙ q) m.are_branches in
         let ks = keys_are (at_of g.nodes (nodes_at x.branches) m.branches m.are_branches) in
         ap₂ (signed o) (sign ∙ ap ((key_view r).minus x.vertex k) (sym ks))
         (meet_agrees o (node_indices o s f e g) g.nodes wave (extended wave) agrees (nodes_at x.branches) (rules.fused x.vertex x.choice k (keys_at g.nodes (nodes_at x.branches)) j))

@@ -10,11 +10,13 @@ use Rattle.om_model.specs.Order.{IsOrder}
 use Rattle.om_model.proofs.Membership.{in_left, in_right, in_either, in_map, in_flat_map, in_filter}
 use Rattle.om_model.proofs.Counting.{in_upto}
 use Rattle.om_graph.specs.Fusion.{Fusion, HasKey, HaveKeys}
+use Rattle.om_graph.proofs.SetNodes.{nodes_of}
 use Rattle.om_keystone.specs.InDiagrams.{Term}
 use Rattle.om_keystone.proofs.Reaching.{IsTerm, IsSettled}
 use Rattle.om_keystone.proofs.KeyedWaves.{AreTermsOf}
-use Rattle.om_keystone.proofs.Members.{in_mapped, from_flat_map, different_append, different_map, different_flat_map}
-use Rattle.om_keystone.proofs.Reached.{nodes_of_keys, same_keys}
+use Rattle.om_keystone.proofs.Members.{different_filter, from_flat_map, different_append, different_map, different_flat_map}
+use Rattle.om_graph.proofs.Lists.{in_mapped}
+use Rattle.om_keystone.proofs.Reached.{same_keys}
 
 from_upto : (x m : ℕ) → 0 < x → x ≤ m → In x (upto m)
 unfolding upto
@@ -28,14 +30,6 @@ upto_differ : (m : ℕ) → Different (upto m)
 unfolding upto
 upto_differ zero = tt
 upto_differ (suc m) = different_append (upto m) (suc m ∷ []) (upto_differ m) ((λ i. i), tt) (λ x i j. ⊎_elim (λ e. let b = in_upto x m i in absurd (omega arith)) (λ k. k) j)
-
-pub different_filter : {A : Type 0} (q : A → Bool) (xs : List A) → Different xs → Different (filter q xs)
-different_filter q [] d = tt
-different_filter {A} q (x ∷ xs) d = by (q x) (different_filter q xs d.1)
-  where
-    by : (b : Bool) → Different (filter q xs) → Different (cond b (x ∷ filter q xs) (filter q xs))
-    by true ih = ((λ i. d.0 ((in_filter q x xs).0 i).0), ih)
-    by false ih = ih
 
 -- branches, a tree for each node
 unfoldable pub choose : {K : Type 0} → (K → List Tree) → List K → List Branches
@@ -164,7 +158,7 @@ module _ {K F : Type 0} (p : Fusion K F) (lt : K → K → Bool) (order : IsOrde
       let t = join f v c bs in
       let x : Term K = record { node = k; vertex = v; choice = c; branches = g.0 } in
       let e : p.field k ≡ f = ok.has_field f v c g.0 k g.2 in
-      let q : IsTerm p x = (nodes_of_keys p bs g.0 g.1, subst (λ i. p.fuses i v c g.0 k) (sym e) g.2) in
+      let q : IsTerm p x = (nodes_of p bs g.0 g.1, subst (λ i. p.fuses i v c g.0 k) (sym e) g.2) in
       let there = in_map (join (p.field k) v c) bs (choose (grown p lt terms n) g.0) (in_choose p (grown p lt terms n) bs g.0 g.1 (λ b u i w. in_grown n b u (are.branches x b q a i) (lesser n x b q h i) w)) in
       in_right t (map leaf (legs_with p lt terms k)) (flat_map (joins p.field (grown p lt terms n)) (terms k))
       (in_flat_map (joins p.field (grown p lt terms n)) x t (terms k) ((are.members k a x).1 (q, refl)) (subst (λ i. In (join i v c bs) (joins p.field (grown p lt terms n) x)) e there))

@@ -13,11 +13,13 @@ use Rattle.om_model.specs.Tree.Branches.{and}
 use Rattle.om_model.specs.Order.{IsOrder}
 use Rattle.om_model.specs.Opened.{Opened}
 use Rattle.om_graph.specs.Fusion.{Fusion, HaveKeys}
+use Rattle.om_graph.proofs.SetNodes.{nodes_of}
 use Rattle.om_keystone.specs.InDiagrams.{Term, KeyTerm, IsOpened}
 use Rattle.om_keystone.proofs.Reaching.{IsTerm, IsSettled}
 use Rattle.om_keystone.proofs.KeyedWaves.{KeyRules, meet, meet_trees, AreTreeWaves, AreOpenedValues, term_value, key_value, AreNodeWaves, AreTermsOf, AreKeysOf, AreOpenedOf}
-use Rattle.om_keystone.proofs.Members.{in_mapped, from_flat_map, different_map, different_flat_map}
-use Rattle.om_keystone.proofs.Reached.{nodes_of_keys, same_keys}
+use Rattle.om_keystone.proofs.Members.{from_flat_map, different_map, different_flat_map}
+use Rattle.om_graph.proofs.Lists.{in_mapped}
+use Rattle.om_keystone.proofs.Reached.{same_keys}
 use Rattle.om_keystone.proofs.Grown.{choose, joins, grown, legs_with, leg_with, legs_differ, from_grown, in_grown, grown_differ, in_choose, chosen, choose_differ, lesser}
 
 module _ {E : Type 0} (o : Ops E) (l : Laws o) where
@@ -153,7 +155,7 @@ module _ {E : Type 0} (o : Ops E) (l : Laws o) where
       unfolding all_opened
       to_opened a h =
           let y : KeyTerm K F = record { flow = w; vertex = a.vertex; choice = a.choice; branches = h.keys } in
-          let m = (keys.members y).1 ((nodes_of_keys p a.parts h.keys h.have, h.close), refl) in
+          let m = (keys.members y).1 ((nodes_of p a.parts h.keys h.have, h.close), refl) in
           in_flat_map (opened_by most) y a ys m
           (in_map (λ bs. let a : Opened = record { vertex = y.vertex; choice = y.choice; parts = bs } in a) a.parts (choose (grown p lt terms most) h.keys)
           (in_choose p (grown p lt terms most) a.parts h.keys h.have (λ b u i c. in_grown p lt order rank ok kept terms are most b u (keys.branches y b m i) (below b (keys.branches y b m i)) c)))

@@ -8,29 +8,10 @@ use Rattle.om_ring.specs.Members.{In}
 use Rattle.om_model.specs.Order.{IsOrder, BeforeAll, Rising, numbers_lt}
 use Rattle.om_model.proofs.Membership.{in_filter}
 use Rattle.om_graph.specs.Graph.{and_then, at_numbers}
+use Rattle.om_graph.proofs.SetNodes.{then_some, some_then, number_of, in_by_number}
 use Rattle.om_keystone.specs.NodeWaves.{one_or_none, keys_at}
 use Rattle.om_keystone.specs.Pruning.{is_marked, marked_of, numbers_from}
 
--- what a partial function that follows another answers
-pub then_some : {A B : Type 0} (o : Option A) (f : A → Option B) (b : B) → and_then o f ≡ Some b → (a : A) × (o ≡ Some a) × (f a ≡ Some b)
-then_some None f b e = absurd (none-some b e)
-then_some (Some a) f b e = (a, refl, e)
-
-pub some_then : {A B : Type 0} (o : Option A) (f : A → Option B) (a : A) (b : B) → o ≡ Some a → f a ≡ Some b → and_then o f ≡ Some b
-some_then o f a b e g = ap (λ x. and_then x f) e ∙ g
-
--- each member has a number
-pub number_of : {A : Type 0} (x : A) (xs : List A) → In x xs → (n : ℕ) × (slice_get xs n ≡ Some x)
-number_of x [] i = absurd i
-number_of x (y ∷ ys) (inl e) = (zero, ap Some (sym e))
-number_of x (y ∷ ys) (inr i) = let r = number_of x ys i in (suc r.0, r.1)
-
-pub in_by_number : {A : Type 0} (xs : List A) (n : ℕ) (x : A) → slice_get xs n ≡ Some x → In x xs
-in_by_number [] n x e = absurd (none-some x e)
-in_by_number (y ∷ ys) zero x e = inl (sym (same_Some y x e))
-in_by_number (y ∷ ys) (suc n) x e = inr (in_by_number ys n x e)
-
--- nodes by their numbers, one after the other
 pub data At {A : Type 0} (xs : List A) : List ℕ → List A → Type 0 where
   at_none : At xs [] []
   at_more : {n : ℕ} {ns : List ℕ} {y : A} {ys : List A} → slice_get xs n ≡ Some y → At xs ns ys → At xs (n ∷ ns) (y ∷ ys)

@@ -34,11 +34,8 @@ use Rattle.om_keystone.specs.CanonicalGraph.{IsMetAt, IsKeyMetAt}
 use Rattle.om_keystone.specs.Laws.{edge_of, NodesAreEdges, FlowsAreTheirs, IsVertexOf, TermsAreVertices, IsKeystoneOf, KeysAreKeystones}
 use Rattle.std.specs.Prelude.{Some}
 use Rattle.om_graph.proofs.KeysOfSides.{side_of, sides_of}
+use Rattle.om_keystone.proofs.FormsOpened.{counts_diagram}
 use Rattle.om_keystone.proofs.ClosingForms.{forms_of, closes_of}
-
-counts_diagram : (s : Scattering) (t : Tree) → counts s t ≡ true → is_diagram s t ≡ true
-unfolding counts
-counts_diagram s t h = (and_parts (is_diagram s t) (all_in (λ set. has_edge s set t) s.edges) h).0
 
 module _ (r : Reaction) (kinds : Kinds) (is : IsReaction r kinds) where
   abbrev s : Scattering

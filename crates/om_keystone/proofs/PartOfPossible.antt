@@ -19,16 +19,12 @@ use Rattle.om_graph.specs.Vertices.{Reaction, fusion, fused_minus, closed_minus}
 use Rattle.om_graph.proofs.HaveReactions.{well_formed_have_reactions}
 use Rattle.om_keystone.specs.CanonicalGraph.{IsCanonicalOf}
 use Rattle.om_keystone.specs.Laws.{StandsIn, KeyStandsIn, IsPartOf, CanonicalIsPartOfPossible}
-use Rattle.om_keystone.proofs.Members.{in_mapped}
-use Rattle.om_keystone.proofs.Numbers.{number_of, in_by_number, of_at, at_all}
-use Rattle.om_keystone.proofs.Reached.{prune_is_exact}
+use Rattle.om_graph.proofs.Lists.{in_mapped}
+use Rattle.om_keystone.proofs.Numbers.{of_at, at_all}
+use Rattle.om_graph.proofs.SetNodes.{number_of, in_by_number}
+use Rattle.om_keystone.proofs.Reached.{node_among, prune_is_exact}
 use Rattle.om_keystone.proofs.Reaching.{PruneIsExact}
 use Rattle.om_keystone.proofs.Settled.{is_settled, has_signs}
-
-node_among : {K F : Type 0} (p : Fusion K F) (ks : List K) (k : K) → AllNodes p ks → In k ks → IsNode p k
-node_among p [] k n i = absurd i
-node_among p (j ∷ ks) k n (inl e) = subst (IsNode p) (sym e) n.0
-node_among p (j ∷ ks) k n (inr i) = node_among p ks k n.1 i
 
 module _ (r : Reaction) (kinds : Kinds) (is : IsReaction r kinds) (g : Graph) (canonical : IsCanonicalOf r g) (whole : Graph) (possible : IsPossible r whole) where
   exact : PruneIsExact (fusion r)

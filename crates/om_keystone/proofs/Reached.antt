@@ -5,16 +5,17 @@ use Rattle.om_model.specs.Tree.{Tree, Branches}
 use Rattle.om_model.specs.Tree.Tree.{leaf, join}
 use Rattle.om_model.specs.Tree.Branches.{none, and}
 use Rattle.om_graph.specs.Fusion.{Fusion, HasKey, HaveKeys, IsNode, AllNodes}
+use Rattle.om_graph.proofs.SetNodes.{nodes_of}
 use Rattle.om_keystone.specs.InDiagrams.{Term, KeyTerm, InDiagram, IsOutward, IsMet}
 use Rattle.om_keystone.proofs.Reaching.{IsTerm, Reached, PruneIsExact, IsSettled}
 use Rattle.om_keystone.proofs.Reaching.Reached.{from_key, from_term}
 use Rattle.om_keystone.proofs.Standing.{Stands, Within, stands_below, standing, stood}
 
 module _ {K F : Type 0} (p : Fusion K F) where
-  pub nodes_of_keys : (bs : Branches) (ks : List K) → HaveKeys p bs ks → AllNodes p ks
-  unfolding HasKey
-  nodes_of_keys none ks h = subst (AllNodes p) (sym h) tt
-  nodes_of_keys (and t bs) ks h = subst (AllNodes p) (sym h.4) ((t, h.2), nodes_of_keys bs h.1 h.3)
+  pub node_among : (ks : List K) (k : K) → AllNodes p ks → In k ks → IsNode p k
+  node_among [] k n i = absurd i
+  node_among (j ∷ ks) k n (inl e) = subst (IsNode p) (sym e) n.0
+  node_among (j ∷ ks) k n (inr i) = node_among ks k n.1 i
 
   -- trees for nodes
   pub record Grown (ks : List K) : Type 0 where
@@ -79,13 +80,13 @@ module _ {K F : Type 0} (p : Fusion K F) where
       seen_in : (t u : Tree) (k : K) → HasKey p u k → Reached p k → Within t u → Seen t
       seen_in t (leaf j) k h r i = absurd i
       seen_in t (join f v c bs) k h r i =
-          seen t bs h.0 h.1 (λ b j. from_term (record { node = k; vertex = v; choice = c; branches = h.0 }) (fused_term f v c h.0 k (nodes_of_keys bs h.0 h.1) h.2) r j) i
+          seen t bs h.0 h.1 (λ b j. from_term (record { node = k; vertex = v; choice = c; branches = h.0 }) (fused_term f v c h.0 k (nodes_of p bs h.0 h.1) h.2) r j) i
 
     pub seen_here : (t : Tree) → InDiagram p t → Seen t
     seen_here t d =
         let w = d.opened in
         let y : KeyTerm K F = record { flow = d.flow; vertex = d.diagram.vertex; choice = d.diagram.choice; branches = w.keys } in
-        seen t d.diagram.parts w.keys w.have (λ k j. from_key y (nodes_of_keys d.diagram.parts w.keys w.have, w.close) j) (stood t d.diagram.parts d.hangs)
+        seen t d.diagram.parts w.keys w.have (λ k j. from_key y (nodes_of p d.diagram.parts w.keys w.have, w.close) j) (stood t d.diagram.parts d.hangs)
 
     module _ (rank : K → ℕ) (ok : IsSettled p rank) where
       mutual
@@ -108,21 +109,11 @@ module _ {K F : Type 0} (p : Fusion K F) where
           let t = join m.field x.vertex x.choice m.branches in
           let s = seen_here t m.in_diagram in
           let h : HasKey p t x.node = (x.branches, m.have, m.fuse) in
-          (fused_term m.field x.vertex x.choice x.branches x.node (nodes_of_keys m.branches x.branches m.have) m.fuse, subst (Reached p) (one_key t s.key x.node s.has_key h) s.reached)
+          (fused_term m.field x.vertex x.choice x.branches x.node (nodes_of p m.branches x.branches m.have) m.fuse, subst (Reached p) (one_key t s.key x.node s.has_key h) s.reached)
 
       node_is : (k : K) → Reached p k → IsNode p k
-      node_is k (from_key y m i) = node_in y.branches k m.0 i
-        where
-          node_in : (ks : List K) (k : K) → AllNodes p ks → In k ks → IsNode p k
-          node_in [] k n i = absurd i
-          node_in (j ∷ ks) k n (inl e) = subst (IsNode p) (sym e) n.0
-          node_in (j ∷ ks) k n (inr i) = node_in ks k n.1 i
-      node_is k (from_term x m r i) = node_in x.branches k m.0 i
-        where
-          node_in : (ks : List K) (k : K) → AllNodes p ks → In k ks → IsNode p k
-          node_in [] k n i = absurd i
-          node_in (j ∷ ks) k n (inl e) = subst (IsNode p) (sym e) n.0
-          node_in (j ∷ ks) k n (inr i) = node_in ks k n.1 i
+      node_is k (from_key y m i) = node_among y.branches k m.0 i
+      node_is k (from_term x m r i) = node_among x.branches k m.0 i
 
       term_met : (x : Term K) → IsTerm p x × Reached p x.node → IsMet p x
       term_met x m =
@@ -135,5 +126,5 @@ module _ {K F : Type 0} (p : Fusion K F) where
       prune_is_exact = record {
         nodes = λ k. (outward_reached k, λ r. let n = node_is k r in (n.0, placed k r n.0 n.1, n.1));
         terms = λ x. (met_term x, term_met x);
-        keys = λ y. ((λ m. (nodes_of_keys m.branches y.branches m.have, m.close)), (λ m. let g = grow y.branches m.0 in record { branches = g.trees; have = g.have; close = m.1 }));
+        keys = λ y. ((λ m. (nodes_of p m.branches y.branches m.have, m.close)), (λ m. let g = grow y.branches m.0 in record { branches = g.trees; have = g.have; close = m.1 }));
       }

@@ -6,6 +6,7 @@ use Rattle.om_ring.specs.Members.{In}
 use Rattle.om_model.specs.Order.{IsOrder, BeforeAll, Rising, numbers_lt}
 use Rattle.om_model.proofs.Membership.{in_map, in_filter}
 use Rattle.om_graph.specs.Fusion.{Fusion, IsNode, AllNodes}
+use Rattle.om_graph.proofs.SetNodes.{nodes_of}
 use Rattle.om_keystone.specs.InDiagrams.{Term, KeyTerm, IsOutward, IsMet, IsKeyMet, IsFlowMet, IsOpened}
 use Rattle.om_keystone.proofs.Reaching.{Reached, IsSettled}
 use Rattle.om_keystone.proofs.Reaching as canonical
@@ -14,9 +15,10 @@ use Rattle.om_graph.specs.Graph.{at_numbers, Numbered, numbered_lt, IsTerm, IsKe
 use Rattle.om_keystone.specs.CanonicalGraph.{IsMetAt, IsKeyMetAt}
 use Rattle.om_keystone.proofs.Reaching.{BranchesFirst, ReachedIsCanonical}
 use Rattle.om_keystone.specs.Pruning.{is_marked, marks_of, marked_of, numbers_from, new_number, renumbered, renumbered_key, kept_terms}
-use Rattle.om_keystone.proofs.Members.{in_mapped}
-use Rattle.om_keystone.proofs.Reached.{prune_is_exact, nodes_of_keys, grow}
-use Rattle.om_keystone.proofs.Numbers.{number_of, in_by_number, At, at_of, of_at, at_number, at_member, at_all, rising_at, number_less, number_once, kept_at, from_kept, rising_kept, rising_filter, rising_mapped, numbers_cases, numbers_first, numbers_rest, numbers_map}
+use Rattle.om_graph.proofs.Lists.{in_mapped}
+use Rattle.om_keystone.proofs.Reached.{node_among, prune_is_exact, grow}
+use Rattle.om_keystone.proofs.Numbers.{At, at_of, of_at, at_number, at_member, at_all, rising_at, number_less, number_once, kept_at, from_kept, rising_kept, rising_filter, rising_mapped, numbers_cases, numbers_first, numbers_rest, numbers_map}
+use Rattle.om_graph.proofs.SetNodes.{number_of, in_by_number}
 use Rattle.om_keystone.proofs.Numbers.At.{at_none, at_more}
 use Rattle.om_keystone.proofs.Marked.{Reaches, InSome, InRank, marked_is_reached, reached_is_marked}
 use Rattle.om_keystone.proofs.Marked.Reaches.{at_first, along}
@@ -76,9 +78,7 @@ module _ {K F : Type 0} (p : Fusion K F) (lt : K → K → Bool) (order : IsOrde
   all_nodes (k ∷ ks) h = ((graph.nodes k).0 (h k (inl refl)), all_nodes ks (λ j i. h j (inr i)))
 
   all_here : (ks : List K) → AllNodes p ks → (k : K) → In k ks → In k ns
-  all_here [] n k i = absurd i
-  all_here (j ∷ ks) n k (inl e) = node_here k (subst (IsNode p) (sym e) n.0)
-  all_here (j ∷ ks) n k (inr i) = all_here ks n.1 k i
+  all_here ks n k i = node_here k (node_among p ks k n i)
 
   at_nodes : {is : List ℕ} {ks : List K} → At ns is ks → (k : K) → In k ks → In k ns
   at_nodes a k i = let m = at_member k a i in in_by_number ns m.0 k m.1
@@ -307,7 +307,7 @@ module _ {K F : Type 0} (p : Fusion K F) (lt : K → K → Bool) (order : IsOrde
   flow_met : (u : F) → In u ws ↔ IsFlowMet p u
   flow_met u = (
     (λ i. let h = (graph.flows u).0 i in let g = grow p h.2 h.3 in (record { vertex = h.0; choice = h.1; parts = g.trees }, record { keys = h.2; have = g.have; close = h.4 })),
-    (λ h. let a = h.0 in let w = h.1 in (graph.flows u).1 (a.vertex, a.choice, w.keys, nodes_of_keys p a.parts w.keys w.have, w.close)),
+    (λ h. let a = h.0 in let w = h.1 in (graph.flows u).1 (a.vertex, a.choice, w.keys, nodes_of p a.parts w.keys w.have, w.close)),
   )
 
   -- a term that is kept, by its old and by its new numbers

@@ -20,6 +20,7 @@ use Rattle.om_model.proofs.Membership.{in_map}
 use Rattle.om_model.proofs.LegSets.{has_leg_set, leg_set_of_leaf}
 use Rattle.om_graph.specs.declared.Graph.{Graph}
 use Rattle.om_graph.specs.declared.Key.{Key}
+use Rattle.om_graph.proofs.SetNodes.{number_of}
 use Rattle.om_keystone.proofs.Reaching.{IsSettled}
 use Rattle.om_keystone.specs.CanonicalGraph.{HasSigns}
 use Rattle.om_keystone.proofs.Reaching.{BranchesFirst}
@@ -63,11 +64,6 @@ split_sizes c set parts (inr e) w h = sizes_of_parts 2 set parts w (subst (λ m.
 part_sizes : (c set : ℕ) (parts : List ℕ) → sets.IsLegSet set → IsSplit c set parts → (x : ℕ) → In x parts → 0 < sets.size x
 part_sizes c set parts w h x i = size_some x (part_filled c set parts h x i) (IsLegSet-part c set parts w h x i)
 
-pub in_at : {A : Type 0} (xs : List A) (x : A) → In x xs → (n : ℕ) × (slice_get xs n ≡ Some x)
-in_at [] x i = elim i [ ]
-in_at (y ∷ xs) x (inl e) = (0, ap Some (sym e))
-in_at (y ∷ xs) x (inr i) = let r = in_at xs x i in (suc r.0, r.1)
-
 module _ (r : Reaction) where
   fused_part : (f v c : ℕ) (ks : List Key) (k b : Key) → Fuses r f v c ks k → In b ks → sets.size b.legs < sets.size k.legs
   fused_part f v c ks k b h i =
@@ -99,8 +95,8 @@ module _ (r : Reaction) where
   -- the signs of the possible graph
   pub has_signs : (g : Graph) → IsPossible r g → HasSigns (λ v (k : Key) ks. fused_minus r k.field v k.legs ks) (closed_minus r) g
   has_signs g h = record {
-    signs = λ x k ks i e f. let n = in_at g.terms x i in h.signs n.0 x k ks n.1 e f;
-    key_signs = λ y ks i f. let n = in_at g.keys y i in h.key_signs n.0 y ks n.1 f;
+    signs = λ x k ks i e f. let n = number_of x g.terms i in h.signs n.0 x k ks n.1 e f;
+    key_signs = λ y ks i f. let n = number_of y g.keys i in h.key_signs n.0 y ks n.1 f;
   }
 
   module _ (kinds : Kinds) (is : IsReaction r kinds) where

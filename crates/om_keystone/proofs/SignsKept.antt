@@ -10,6 +10,7 @@ use Rattle.om_graph.specs.declared.Key.{Key}
 use Rattle.om_graph.specs.declared.KeyTerm.{KeyTerm}
 use Rattle.om_graph.specs.declared.Term.{Term}
 use Rattle.om_graph.specs.Fusion.{Fusion}
+use Rattle.om_keystone.proofs.Members.{map_map}
 use Rattle.om_keystone.proofs.Reaching.{IsSettled}
 use Rattle.om_graph.specs.Graph.{at_numbers, Numbered, IsGraph}
 use Rattle.om_keystone.specs.CanonicalGraph.{IsCanonicalGraph, HasSigns}
@@ -42,10 +43,6 @@ filter_map {A} q f (x ∷ xs) = by (q (f x)) (filter_map q f xs)
     by : (b : Bool) → filter q (map f xs) ≡ map f (filter (λ x. q (f x)) xs) → cond b (f x ∷ filter q (map f xs)) (filter q (map f xs)) ≡ map f (cond b (x ∷ filter (λ x. q (f x)) xs) (filter (λ x. q (f x)) xs))
     by true ih = ap (λ ys. f x ∷ ys) ih
     by false ih = ih
-
-map_map : {A B C : Type 0} (g : B → C) (f : A → B) (xs : List A) → map g (map f xs) ≡ map (λ x. g (f x)) xs
-map_map g f [] = refl
-map_map g f (x ∷ xs) = ap (λ ys. g (f x) ∷ ys) (map_map g f xs)
 
 module _ (p : Fusion Key Flow) (lt : Key → Key → Bool) (order : IsOrder lt) (before : Flow → Flow → Bool) (rank : Key → ℕ) (ok : IsSettled p rank) (first : BranchesFirst p lt)
     (minus : ℕ → Key → List Key → Bool) (closed_minus : ℕ → List Key → Bool) (old new : Graph) (part : IsReachedPart old new)

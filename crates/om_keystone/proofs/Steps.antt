@@ -1,30 +1,18 @@
 -- One step of each loop of pruning, and its end.
-use Rattle.std.proofs.Common.{◌≡◌, ℕ, zero, suc, ◌+◌, ◌<◌, ◌≤◌, List, [], ◌∷◌, ◌++◌, map, filter, length, drop, replicate, get_or, Bool, true, false, cond, refl, ap, ap₂, sym, subst, ◌∙◌, arith, length-set}
-use Rattle.std.proofs.lemmas.List.{drop_more, length-replicate}
+use Rattle.std.proofs.Common.{append-nil, ◌≡◌, ℕ, zero, suc, ◌+◌, ◌<◌, ◌≤◌, List, [], ◌∷◌, ◌++◌, map, filter, length, drop, replicate, get_or, Bool, true, false, cond, refl, ap, ap₂, sym, subst, ◌∙◌, arith, length-set}
+use Rattle.std.proofs.lemmas.List.{drop_more, length-replicate, map-append}
+use Rattle.std.proofs.Math.ListN.{drop_of_length-le}
 use Rattle.std.specs.Prelude.{slice_index, slice_set}
 use Rattle.om_graph.specs.Graph.{Numbered}
 use Rattle.om_graph.specs.declared.KeyTerm.{KeyTerm}
 use Rattle.om_graph.specs.declared.Term.{Term}
+use Rattle.om_keystone.proofs.Members.{map_map}
 use Rattle.om_keystone.specs.Pruning.{is_marked, mark_all, mark_keys, mark_terms, marks_of, marked_of, numbers_from, AreLow, renumbered, kept_terms, kept_signs}
 use Rattle.om_graph.specs.Possible.{unsigned, unsigned_key}
-
-pub drop_past : {A : Type 0} (xs : List A) (i : ℕ) → length xs ≤ i → drop i xs ≡ []
-drop_past [] zero h = refl
-drop_past [] (suc i) h = refl
-drop_past (x ∷ xs) zero h = absurd (omega arith)
-drop_past (x ∷ xs) (suc i) h = drop_past xs i (omega arith)
-
-append_none : {A : Type 0} (xs : List A) → xs ++ [] ≡ xs
-append_none [] = refl
-append_none (x ∷ xs) = ap (λ ys. x ∷ ys) (append_none xs)
 
 append_more : {A : Type 0} (xs : List A) (y : A) (ys : List A) → xs ++ (y ∷ ys) ≡ (xs ++ y ∷ []) ++ ys
 append_more [] y ys = refl
 append_more (x ∷ xs) y ys = ap (λ zs. x ∷ zs) (append_more xs y ys)
-
-map_append : {A B : Type 0} (f : A → B) (xs ys : List A) → map f (xs ++ ys) ≡ map f xs ++ map f ys
-map_append f [] ys = refl
-map_append f (x ∷ xs) ys = ap (λ zs. f x ∷ zs) (map_append f xs ys)
 
 pub mark_all_step : (whole now new : List Bool) (ns : List ℕ) (i : ℕ) → i < length ns → whole ≡ mark_all now (drop i ns) → new ≡ slice_set now (get_or ns i 0) true → whole ≡ mark_all new (drop (i + 1) ns)
 unfolding mark_all
@@ -32,7 +20,7 @@ mark_all_step whole now new ns i h e g = e ∙ ap (mark_all now) (drop_more ns i
 
 pub mark_all_end : (whole now : List Bool) (ns : List ℕ) (i : ℕ) → length ns ≤ i → whole ≡ mark_all now (drop i ns) → now ≡ whole
 unfolding mark_all
-mark_all_end whole now ns i h e = sym (e ∙ ap (mark_all now) (drop_past ns i h))
+mark_all_end whole now ns i h e = sym (e ∙ ap (mark_all now) (drop_of_length-le ns h))
 
 pub mark_keys_step : (whole now new : List Bool) (ys : List KeyTerm) (y : KeyTerm) (i : ℕ) → i < length ys → y ≡ get_or ys i y → whole ≡ mark_keys now (map unsigned_key (drop i ys)) → new ≡ mark_all now (unsigned_key y).branches → whole ≡ mark_keys new (map unsigned_key (drop (i + 1) ys))
 unfolding mark_keys
@@ -41,7 +29,7 @@ mark_keys_step whole now new ys y i h q e g =
 
 pub mark_keys_end : (whole now : List Bool) (ys : List KeyTerm) (i : ℕ) → length ys ≤ i → whole ≡ mark_keys now (map unsigned_key (drop i ys)) → now ≡ whole
 unfolding mark_keys
-mark_keys_end whole now ys i h e = sym (e ∙ ap (λ zs. mark_keys now (map unsigned_key zs)) (drop_past ys i h))
+mark_keys_end whole now ys i h e = sym (e ∙ ap (λ zs. mark_keys now (map unsigned_key zs)) (drop_of_length-le ys h))
 
 -- the next term to the front
 pub mark_terms_more : (old now new : List Bool) (xs : List Term) (x : Term) (i : ℕ) → i < length xs → x ≡ get_or xs i x → now ≡ mark_terms old (map unsigned (drop (i + 1) xs)) → is_marked now x.node ≡ true → new ≡ mark_all now (unsigned x).branches → new ≡ mark_terms old (map unsigned (drop i xs))
@@ -71,7 +59,7 @@ numbers_step whole now new c d ms i h e g k =
 
 pub numbers_end : (whole now : List ℕ) (c : ℕ) (ms : List Bool) (i : ℕ) → length ms ≤ i → whole ≡ now ++ numbers_from c (drop i ms) → now ≡ whole
 unfolding numbers_from
-numbers_end whole now c ms i h e = sym (e ∙ ap (λ xs. now ++ numbers_from c xs) (drop_past ms i h) ∙ append_none now)
+numbers_end whole now c ms i h e = sym (e ∙ ap (λ xs. now ++ numbers_from c xs) (drop_of_length-le ms h) ∙ append-nil now)
 
 -- no new number is greater than the old one
 numbers_low : (c : ℕ) (ms : List Bool) (n : ℕ) → slice_index (numbers_from c ms) n ≤ c + n
@@ -106,7 +94,7 @@ kept_same whole now ms xs i h k b e = e ∙ ap (λ us. now ++ us) (marked_withou
 
 pub kept_end : {A : Type 0} (whole now : List A) (ms : List Bool) (xs : List A) (i : ℕ) → length ms ≤ i → whole ≡ now ++ marked_of (drop i ms) (drop i xs) → now ≡ whole
 unfolding marked_of
-kept_end whole now ms xs i h e = sym (e ∙ ap (λ us. now ++ marked_of us (drop i xs)) (drop_past ms i h) ∙ append_none now)
+kept_end whole now ms xs i h e = sym (e ∙ ap (λ us. now ++ marked_of us (drop i xs)) (drop_of_length-le ms h) ∙ append-nil now)
 
 pub terms_more : (whole : List Numbered) (now new : List Term) (ms : List Bool) (ns : List ℕ) (xs : List Term) (x y : Term) (i : ℕ) → i < length xs → x ≡ get_or xs i x → is_marked ms x.node ≡ true → unsigned y ≡ renumbered ns (unsigned x)
     → whole ≡ map unsigned now ++ kept_terms ms ns (map unsigned (drop i xs)) → new ≡ now ++ y ∷ [] → whole ≡ map unsigned new ++ kept_terms ms ns (map unsigned (drop (i + 1) xs))
@@ -117,7 +105,7 @@ terms_more whole now new ms ns xs x y i h q b u e g =
     ∙ ap (λ t. map unsigned now ++ map (renumbered ns) (cond t (unsigned x ∷ rest) rest)) b
     ∙ append_more (map unsigned now) (renumbered ns (unsigned x)) (map (renumbered ns) rest)
     ∙ ap (λ z. (map unsigned now ++ z ∷ []) ++ map (renumbered ns) rest) (sym u)
-    ∙ ap (λ zs. zs ++ map (renumbered ns) rest) (sym (map_append unsigned now (y ∷ [])) ∙ ap (map unsigned) (sym g))
+    ∙ ap (λ zs. zs ++ map (renumbered ns) rest) (sym (map-append unsigned now (y ∷ [])) ∙ ap (map unsigned) (sym g))
 
 pub terms_same : (whole : List Numbered) (now : List Term) (ms : List Bool) (ns : List ℕ) (xs : List Term) (x : Term) (i : ℕ) → i < length xs → x ≡ get_or xs i x → is_marked ms x.node ≡ false
     → whole ≡ map unsigned now ++ kept_terms ms ns (map unsigned (drop i xs)) → whole ≡ map unsigned now ++ kept_terms ms ns (map unsigned (drop (i + 1) xs))
@@ -129,7 +117,7 @@ terms_same whole now ms ns xs x i h q b e =
 
 pub terms_end : (whole : List Numbered) (now : List Term) (ms : List Bool) (ns : List ℕ) (xs : List Term) (i : ℕ) → length xs ≤ i → whole ≡ map unsigned now ++ kept_terms ms ns (map unsigned (drop i xs)) → map unsigned now ≡ whole
 unfolding kept_terms
-terms_end whole now ms ns xs i h e = sym (e ∙ ap (λ zs. map unsigned now ++ kept_terms ms ns (map unsigned zs)) (drop_past xs i h) ∙ append_none (map unsigned now))
+terms_end whole now ms ns xs i h e = sym (e ∙ ap (λ zs. map unsigned now ++ kept_terms ms ns (map unsigned zs)) (drop_of_length-le xs h) ∙ append-nil (map unsigned now))
 
 abbrev minus_of : Term → Bool
 minus_of x = x.minus
@@ -143,7 +131,7 @@ signs_more whole now new ms xs x y i h q b u e g =
     ∙ ap (λ t. map minus_of now ++ map minus_of (cond t (x ∷ rest) rest)) b
     ∙ append_more (map minus_of now) x.minus (map minus_of rest)
     ∙ ap (λ z. (map minus_of now ++ z ∷ []) ++ map minus_of rest) (sym u)
-    ∙ ap (λ zs. zs ++ map minus_of rest) (sym (map_append minus_of now (y ∷ [])) ∙ ap (map minus_of) (sym g))
+    ∙ ap (λ zs. zs ++ map minus_of rest) (sym (map-append minus_of now (y ∷ [])) ∙ ap (map minus_of) (sym g))
 
 pub signs_same : (whole : List Bool) (now : List Term) (ms : List Bool) (xs : List Term) (x : Term) (i : ℕ) → i < length xs → x ≡ get_or xs i x → is_marked ms x.node ≡ false
     → whole ≡ map minus_of now ++ kept_signs ms (drop i xs) → whole ≡ map minus_of now ++ kept_signs ms (drop (i + 1) xs)
@@ -155,22 +143,11 @@ signs_same whole now ms xs x i h q b e =
 
 pub signs_end : (whole : List Bool) (now : List Term) (ms : List Bool) (xs : List Term) (i : ℕ) → length xs ≤ i → whole ≡ map minus_of now ++ kept_signs ms (drop i xs) → map minus_of now ≡ whole
 unfolding kept_signs
-signs_end whole now ms xs i h e = sym (e ∙ ap (λ zs. map minus_of now ++ kept_signs ms zs) (drop_past xs i h) ∙ append_none (map minus_of now))
+signs_end whole now ms xs i h e = sym (e ∙ ap (λ zs. map minus_of now ++ kept_signs ms zs) (drop_of_length-le xs h) ∙ append-nil (map minus_of now))
 
--- one more of what each becomes
-pub mapped_more : {A B C : Type 0} (f : A → C) (g : B → C) (whole : List C) (now new : List B) (xs : List A) (x : A) (y : B) (i : ℕ) → i < length xs → x ≡ get_or xs i x → g y ≡ f x → whole ≡ map g now ++ map f (drop i xs) → new ≡ now ++ y ∷ [] → whole ≡ map g new ++ map f (drop (i + 1) xs)
-mapped_more f g whole now new xs x y i h q u e k =
-    e ∙ ap (λ zs. map g now ++ map f zs) (drop_more xs i x h ∙ ap (λ z. z ∷ drop (i + 1) xs) (sym q))
-    ∙ append_more (map g now) (f x) (map f (drop (i + 1) xs))
-    ∙ ap (λ z. (map g now ++ z ∷ []) ++ map f (drop (i + 1) xs)) (sym u)
-    ∙ ap (λ zs. zs ++ map f (drop (i + 1) xs)) (sym (map_append g now (y ∷ [])) ∙ ap (map g) (sym k))
-
+-- the end of a loop that makes one of each
 pub mapped_end : {A B C : Type 0} (f : A → C) (g : B → C) (whole : List C) (now : List B) (xs : List A) (i : ℕ) → length xs ≤ i → whole ≡ map g now ++ map f (drop i xs) → map g now ≡ whole
-mapped_end f g whole now xs i h e = sym (e ∙ ap (λ zs. map g now ++ map f zs) (drop_past xs i h) ∙ append_none (map g now))
-
-pub map_map : {A B C : Type 0} (g : B → C) (f : A → B) (xs : List A) → map g (map f xs) ≡ map (λ x. g (f x)) xs
-map_map g f [] = refl
-map_map g f (x ∷ xs) = ap (λ ys. g (f x) ∷ ys) (map_map g f xs)
+mapped_end f g whole now xs i h e = sym (e ∙ ap (λ zs. map g now ++ map f zs) (drop_of_length-le xs h) ∙ append-nil (map g now))
 
 pub marks_are : (n : ℕ) (blank now new : List Bool) (xs : List Term) (ys : List KeyTerm) → blank ≡ replicate n false → now ≡ mark_keys (replicate n false) (map unsigned_key ys) → new ≡ mark_terms now (map unsigned xs) → new ≡ marks_of n (map unsigned xs) (map unsigned_key ys)
 unfolding marks_of

@@ -31,7 +31,7 @@ use Rattle.om_graph.specs.Graph.{Numbered}
 use Rattle.om_keystone.proofs.ModelRules.{odd_all, AreSigns, ShowsParts, model_rules}
 use Rattle.om_keystone.proofs.NumberedAnswer.{AreWavesAt, NumberedAnswers}
 use Rattle.om_keystone.proofs.Forms.{TellsForms}
-use Rattle.om_keystone.proofs.GraphLaw.{rising_differ}
+use Rattle.om_model.proofs.FormSums.{rising_different}
 use Rattle.om_keystone.proofs.ByNumber.{numbered_answers}
 use Rattle.om_keystone.proofs.FormsOpened.{are_opened_diagrams}
 use Rattle.om_graph.specs.Vertices.{Reaction, Fuses, fusion, fused_minus, closed_minus}
@@ -98,5 +98,5 @@ module _ (r : Reaction) (kinds : Kinds) (is : IsReaction r kinds) where
         → NumberedAnswers o s rules e (fusion r) (key_view r) flow_ends ns ys ws wave a ↔ IsAnswer o s rules (lines_by s kinds (colours_in r)) e a
     graph_answers wave waves a =
         numbered_answers (fusion r) key_lt key_order flow_lt flow_order (λ (k : Key). sets.size k.legs) (is_settled r kinds is) ns ts ys ws graph o l s rules (lines_by s kinds (colours_in r)) e (key_view r) flow_ends by_ends
-        shows (signs_in s kinds) signs_are (hung s) ds (rising_differ tree_lt tree_order ds are.rising)
+        shows (signs_in s kinds) signs_are (hung s) ds (rising_different tree_lt tree_order.irreflexive ds are.rising)
         (are_opened_diagrams o l s rules kinds (colours_in r) e is.fields two is.lines is.colours (fusion r) (key_view r) flow_ends tells ds are) are wave waves a

@@ -2,12 +2,13 @@ use Rattle.std.proofs.Common.{◌≡◌, ◌+◌, ◌-◌, length, drop, map, ap
 use Rattle.om_graph.specs.declared.Term.{Term}
 use Rattle.om_keystone.specs.Pruning.{mark_terms}
 use Rattle.om_graph.specs.Possible.{unsigned}
-use Rattle.om_keystone.proofs.Steps.{drop_past, mark_terms_more, mark_terms_same}
+use Rattle.std.proofs.Math.Seq.{drop-length}
+use Rattle.om_keystone.proofs.Steps.{mark_terms_more, mark_terms_same}
 use Rattle.om_keystone.proofs.marking.mark_terms.Goals as goal
 
 pub loop-i-init : goal.loop-i-init
 unfolding mark_terms
-loop-i-init c = ap (λ (xs : List Term). mark_terms c.args.marks.now.items (map unsigned xs)) (sym (drop_past c.args.terms.now (length c.args.terms.now) (omega arith)))
+loop-i-init c = ap (λ (xs : List Term). mark_terms c.args.marks.now.items (map unsigned xs)) (sym (drop-length c.args.terms.now))
 
 pub loop-i-preserved-then-has_mark : goal.loop-i-preserved-then-has_mark
 loop-i-preserved-then-has_mark c =
