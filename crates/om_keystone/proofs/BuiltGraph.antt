@@ -22,7 +22,7 @@ use Rattle.om_graph.specs.TreeKeys.{IsReaction}
 use Rattle.om_graph.specs.Vertices.{Reaction, fusion}
 use Rattle.om_graph.proofs.HaveReactions.{well_formed_have_reactions}
 use Rattle.om_graph.proofs.Orders.{key_order}
-use Rattle.om_keystone.specs.Built.{is_inner, terms_at, IsBelow, NodesAreBuilt, AreInOrder, LegsHaveNone, IsBuilt}
+use Rattle.om_keystone.specs.Built.{is_inner, terms_at, IsBelow, NodeIsBuilt, NodesAreBuilt, AreInOrder, LegsHaveNone, IsBuilt}
 use Rattle.om_keystone.specs.CanonicalGraph.{IsCanonicalOf}
 use Rattle.om_keystone.specs.Laws.{CanonicalIsBuilt}
 use Rattle.om_keystone.proofs.Built.{is_built_up}
@@ -47,7 +47,7 @@ none_in (x ∷ xs) h = absurd (h x (inl refl))
 
 -- what holds of each node by its number, node by node
 nodes_from : (terms : List Term) (k : ℕ) (nodes : List Key)
-    → ((n : ℕ) (node : Key) → slice_get nodes n ≡ Some node → is_inner node ≡ true → (0 < length (terms_at terms (k + n))) × AllByRecursion (IsBelow (k + n)) (terms_at terms (k + n))) → NodesAreBuilt terms k nodes
+    → ((n : ℕ) (node : Key) → slice_get nodes n ≡ Some node → NodeIsBuilt terms (k + n) node) → NodesAreBuilt terms k nodes
 nodes_from terms k [] h = tt
 nodes_from terms k (node ∷ nodes) h =
     let here : k + 0 ≡ k = omega arith in (
@@ -80,7 +80,7 @@ module _ (r : Reaction) (kinds : Kinds) (is : IsReaction r kinds) (g : Graph) (c
   built_up : IsBuiltUp (fusion r) (IsInner (fusion r)) g.nodes (map unsigned g.terms) (map unsigned_key g.keys) g.flows
   built_up = is_built_up (fusion r) key_lt key_order flow_lt (λ (k : Key). sets.size k.legs) (is_settled r kinds is) (branches_first r) g.nodes (map unsigned g.terms) (map unsigned_key g.keys) g.flows canonical.graph
 
-  node_built : (n : ℕ) (node : Key) → slice_get g.nodes n ≡ Some node → is_inner node ≡ true → (0 < length (terms_at g.terms n)) × AllByRecursion (IsBelow n) (terms_at g.terms n)
+  node_built : (n : ℕ) (node : Key) → slice_get g.nodes n ≡ Some node → NodeIsBuilt g.terms n node
   unfolding terms_at
   node_built n node e inner =
       let made = built_up.made n node e (leg_or_inner r kinds is node inner) in
@@ -104,8 +104,7 @@ module _ (r : Reaction) (kinds : Kinds) (is : IsReaction r kinds) (g : Graph) (c
 
   built : IsBuilt g
   built = record {
-    nodes = nodes_from g.terms 0 g.nodes (λ n node e inner.
-        let same : n ≡ 0 + n = omega arith in subst (λ m. (0 < length (terms_at g.terms m)) × AllByRecursion (IsBelow m) (terms_at g.terms m)) same (node_built n node e inner));
+    nodes = nodes_from g.terms 0 g.nodes (λ n node e. let same : n ≡ 0 + n = omega arith in subst (λ m. NodeIsBuilt g.terms m node) same (node_built n node e));
     legs = legs_from g.terms 0 g.nodes (λ n node e leg. let same : n ≡ 0 + n = omega arith in subst (λ m. terms_at g.terms m ≡ []) same (leg_built n node e leg));
     order = in_order 0 g.terms (λ t i. omega arith) canonical.graph.terms_rise;
     within = all_by (λ (t : Term). t.node < length g.nodes) g.terms (λ t i. built_up.within (unsigned t) (in_map unsigned t g.terms i));

@@ -23,10 +23,14 @@ keys_at_flow keys m = filter (λ t. t.flow == m) keys
 abbrev pub IsBelow : ℕ → Term → Type 0
 IsBelow k t = AllByRecursion (λ b. b < k) (nodes_at t.branches)
 
--- each inner node, from number k on, has a term, and each of its terms is made of earlier nodes
+-- node k, if it is inner, has a term, and each of its terms is made of earlier nodes
+abbrev pub NodeIsBuilt : List Term → ℕ → Key → Type 0
+NodeIsBuilt terms k node = is_inner node ≡ true → (0 < length (terms_at terms k)) × AllByRecursion (IsBelow k) (terms_at terms k)
+
+-- so is each node from number k on
 abbrev pub NodesAreBuilt : List Term → ℕ → List Key → Type 0
 NodesAreBuilt terms k [] = Unit {0}
-NodesAreBuilt terms k (node ∷ nodes) = (is_inner node ≡ true → (0 < length (terms_at terms k)) × AllByRecursion (IsBelow k) (terms_at terms k)) × NodesAreBuilt terms (suc k) nodes
+NodesAreBuilt terms k (node ∷ nodes) = NodeIsBuilt terms k node × NodesAreBuilt terms (suc k) nodes
 
 -- terms stand in the order of their nodes, from number k on
 abbrev pub AreInOrder : ℕ → List Term → Type 0

@@ -62,7 +62,8 @@ pub record IsPartOf (whole part : Graph) : Type 0 where
 module _ (Holds : Model → Process → Graph → Type 0) where
   -- said of the canonical graph of each process over a well-formed model
   abbrev pub OfCanonicalGraphs : Type 0
-  OfCanonicalGraphs = (m : Model) (p : Process) → IsWellFormed m → IsProcessOf m p → (g : Graph) → IsCanonicalOf (reaction_of m p) g → Holds m p g
+  OfCanonicalGraphs =
+      (m : Model) (p : Process) → IsWellFormed m → IsProcessOf m p → (g : Graph) → IsCanonicalOf (reaction_of m p) g → Holds m p g
 
 -- what the canonical graph has stands in the possible graph
 abbrev pub CanonicalIsPartOfPossible : Type 0
@@ -73,11 +74,13 @@ edge_of k = record { legs = k.legs; field = k.field; flow = k.partial }
 
 -- its nodes are just the outward edges of the diagrams that count
 abbrev pub NodesAreEdges : Type 0
-NodesAreEdges = OfCanonicalGraphs (λ m p g. (k : Key) → In k g.nodes ↔ ((t : Tree) × (counts (scattering_of m p) t ≡ true) × IsOutwardEdge (scattering_of m p) (colours_of m) t (edge_of k)))
+NodesAreEdges = OfCanonicalGraphs (λ m p g. (k : Key)
+    → In k g.nodes ↔ ((t : Tree) × (counts (scattering_of m p) t ≡ true) × IsOutwardEdge (scattering_of m p) (colours_of m) t (edge_of k)))
 
 -- its flows are just their flows
 abbrev pub FlowsAreTheirs : Type 0
-FlowsAreTheirs = OfCanonicalGraphs (λ m p g. (w : Flow) → In w g.flows ↔ ((t : Tree) × (counts (scattering_of m p) t ≡ true) × (w ≡ flow_at (scattering_of m p) (colours_of m) (opened_at_top (scattering_of m p) t))))
+FlowsAreTheirs = OfCanonicalGraphs (λ m p g. let s = scattering_of m p in (w : Flow)
+    → In w g.flows ↔ ((t : Tree) × (counts s t ≡ true) × (w ≡ flow_at s (colours_of m) (opened_at_top s t))))
 
 -- a vertex of a diagram that counts, other than its keystone, at which these nodes meet by this choice and make this node
 pub record IsVertexOf (r : Reaction) (g : Graph) (x : Numbered) : Type 0 where
@@ -120,4 +123,5 @@ abbrev pub CanonicalGraphGivesAnswer : {E : Type 0} → Ops E → Type 0
 CanonicalGraphGivesAnswer {E} o =
     (m : Model) (p : Process) → IsAccepted o m → IsProcessOf m p → (g : Graph) → IsCanonicalOf (reaction_of m p) g
     → (t : Table E) (e : Event E) (wave : ℕ → ℕ → E) → AreNodeWaves o (scattering_of m p) (feynman_rules o m t) e g wave
-    → (a : Answer E) → GraphAnswers o (scattering_of m p) (feynman_rules o m t) e g wave a ↔ IsAnswer o (scattering_of m p) (feynman_rules o m t) (lines_of m p) e a
+    → (a : Answer E) → GraphAnswers o (scattering_of m p) (feynman_rules o m t) e g wave a
+    ↔ IsAnswer o (scattering_of m p) (feynman_rules o m t) (lines_of m p) e a

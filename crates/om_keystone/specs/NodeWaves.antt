@@ -37,7 +37,8 @@ indices_at indices (Some k) = indices k
 -- the sum over the indices of some nodes of an entry times their wave functions
 unfoldable pub meet_at : {E K : Type 0} → Ops E → (K → List ℕ) → List K → (ℕ → ℕ → E) → List ℕ → (List ℕ → E) → E
 meet_at o indices ns wave [] entry = entry []
-meet_at o indices ns wave (n ∷ is) entry = sum_over o (indices_at indices (slice_get ns n)) (λ i. o.times (wave n i) (meet_at o indices ns wave is (λ js. entry (i ∷ js))))
+meet_at o indices ns wave (n ∷ is) entry =
+    sum_over o (indices_at indices (slice_get ns n)) (λ i. o.times (wave n i) (meet_at o indices ns wave is (λ js. entry (i ∷ js))))
 
 -- the edge above a node, as a vertex sees it that the node enters
 abbrev pub part_of : Key → Part
@@ -70,7 +71,8 @@ module _ {E : Type 0} (o : Ops E) (s : Scattering) (r : FeynmanRules E) (e : Eve
 
   -- numbers for the nodes, one at each index, are their wave functions
   abbrev pub AreNodeWaves : (ℕ → ℕ → E) → Type 0
-  AreNodeWaves wave = (n : ℕ) (k : Key) → slice_get g.nodes n ≡ Some k → (i : ℕ) → In i (node_indices k) → wave n i ≡ node_wave wave n k i
+  AreNodeWaves wave =
+      (n : ℕ) (k : Key) → slice_get g.nodes n ≡ Some k → (i : ℕ) → In i (node_indices k) → wave n i ≡ node_wave wave n k i
 
   -- for each flow, of which the first has number m, the sum over its keystone terms
   unfoldable pub flow_values : (ℕ → ℕ → E) → ℕ → List Flow → List (List ℕ × E)
@@ -88,5 +90,6 @@ module _ {E : Type 0} (o : Ops E) (s : Scattering) (r : FeynmanRules E) (e : Eve
   -- the answer of the graph: unbalanced; the least pole; or for each flow the sum over its keystone terms
   abbrev pub GraphAnswers : (ℕ → ℕ → E) → Answer E → Type 0
   GraphAnswers wave unbalanced = Balances o e s.size → ⊥
-  GraphAnswers wave (pole name) = Balances o e s.size × HasPoleNode name × ((other : EdgeName) → HasPoleNode other → name_lt other name ≡ false)
+  GraphAnswers wave (pole name) =
+      Balances o e s.size × HasPoleNode name × ((other : EdgeName) → HasPoleNode other → name_lt other name ≡ false)
   GraphAnswers wave (values vs) = Balances o e s.size × ((name : EdgeName) → HasPoleNode name → ⊥) × (vs ≡ flow_values wave 0 g.flows)
