@@ -32,3 +32,4 @@ pub mod BuiltGraph
 pub mod PartOfPossible
 pub mod GraphSigns
 pub mod AcceptedModels
+pub mod NodeNames

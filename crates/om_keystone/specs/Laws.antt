@@ -1,7 +1,8 @@
 -- Laws of the canonical graph, as statements.
-use Rattle.std.specs.Prelude.{◌≡◌, ℕ, List, map, true, Some, slice_get, ◌↔◌}
+use Rattle.std.specs.Prelude.{◌≡◌, ℕ, List, map, true, Some, slice_get, if◌then◌else◌, ◌↔◌}
 use Rattle.om_ring.specs.Members.{In}
 use Rattle.om_ring.specs.Ops.{Ops}
+use Rattle.om_legs.specs.Legs.{holds, complement}
 use Rattle.om_colour.specs.declared.Flow.{Flow}
 use Rattle.om_model.specs.declared.model.Model.{Model}
 use Rattle.om_model.specs.declared.process.Process.{Process}
@@ -17,7 +18,9 @@ use Rattle.om_model.specs.Opened.{Opened, opened_at_top}
 use Rattle.om_model.specs.ColourLines.{flow_at}
 use Rattle.om_model.specs.KeystoneForm.{IsKeystoneForm}
 use Rattle.om_model.specs.Outward.{OutwardEdge, IsOutwardEdge, subtrees_all}
-use Rattle.om_model.specs.Event.{Event}
+use Rattle.om_model.specs.Event.{Event, members}
+use Rattle.om_model.specs.Propagator.{EdgeName, set_number}
+use Rattle.om_model.specs.Theory.{Scattering}
 use Rattle.om_model.specs.Answer.{Answer, IsAnswer}
 use Rattle.om_graph.specs.declared.Graph.{Graph}
 use Rattle.om_graph.specs.declared.Key.{Key}
@@ -31,7 +34,8 @@ use Rattle.om_graph.specs.Vertices.{Reaction}
 use Rattle.om_graph.specs.WellFormed.{IsWellFormed, IsProcessOf}
 use Rattle.om_keystone.specs.Built.{IsBuilt}
 use Rattle.om_keystone.specs.CanonicalGraph.{IsCanonicalOf}
-use Rattle.om_keystone.specs.NodeWaves.{AreNodeWaves, GraphAnswers}
+use Rattle.om_keystone.specs.EdgeRules.{name_of}
+use Rattle.om_keystone.specs.NodeWaves.{part_of, AreNodeWaves, GraphAnswers}
 
 -- a term of one graph stands in another one: of the same nodes, with the same vertex, choice and sign
 pub record StandsIn (whole part : Graph) (x : Term) : Type 0 where
@@ -112,6 +116,24 @@ pub record IsKeystoneOf (r : Reaction) (g : Graph) (y : Numbered) : Type 0 where
 -- its keystone terms are just these keystones
 abbrev pub KeysAreKeystones : Type 0
 KeysAreKeystones = OfCanonicalGraphs (λ m p g. (y : Numbered) → In y (map unsigned_key g.keys) ↔ IsKeystoneOf (reaction_of m p) g y)
+
+-- the side without leg 1 of the edge above a node, and the field that leaves that side
+abbrev pub side_without_leg_1 : Scattering → Key → ℕ
+side_without_leg_1 s k = if holds k.legs 1 then complement k.legs s.size else k.legs
+
+abbrev pub field_of_side : Scattering → Key → ℕ
+field_of_side s k = if holds k.legs 1 then s.theory.anti k.field else k.field
+
+-- an edge above a node has this name, by the number of that side
+pub record IsNamed (s : Scattering) (k : Key) (name : EdgeName) : Type 0 where
+  pub legs : name.legs ≡ members s.size (holds (side_without_leg_1 s k))
+  pub number : set_number name.legs ≡ side_without_leg_1 s k
+  pub field : name.field ≡ field_of_side s k
+
+-- the names of the edges above its nodes
+abbrev pub NodesHaveNames : Type 0
+NodesHaveNames = OfCanonicalGraphs (λ m p g. (k : Key)
+    → In k g.nodes → IsNamed (scattering_of m p) k (name_of (scattering_of m p) (part_of k)))
 
 -- it can be built node by node
 abbrev pub CanonicalIsBuilt : Type 0

@@ -1,5 +1,5 @@
 //! Laws of the canonical graph. Each is the contract of a function that does nothing.
-ghost use Rattle.om_keystone.specs.Laws.{CanonicalGraphGivesAnswer, CanonicalIsBuilt, CanonicalIsPartOfPossible, FlowsAreTheirs, KeysAreKeystones, NodesAreEdges, TermsAreVertices};
+ghost use Rattle.om_keystone.specs.Laws.{CanonicalGraphGivesAnswer, CanonicalIsBuilt, CanonicalIsPartOfPossible, FlowsAreTheirs, KeysAreKeystones, NodesAreEdges, NodesHaveNames, TermsAreVertices};
 
 use om_ring::Ring;
 
@@ -15,6 +15,11 @@ pub fn canonical_graph_is_of_diagrams()
     ensures terms { TermsAreVertices }
     ensures keys { KeysAreKeystones }
     ensures flows { FlowsAreTheirs }
+{}
+
+/// The edge above a node of the canonical graph is named by its side without leg 1, a set as a number, and the field that leaves that side.
+pub fn nodes_have_names()
+    ensures { NodesHaveNames }
 {}
 
 /// The canonical graph can be built node by node, in the order of its terms.
