@@ -1,5 +1,5 @@
 -- The canonical graph of a process can be built node by node.
-use Rattle.std.proofs.Common.{◌≡◌, ℕ, zero, suc, ◌+◌, ◌<◌, ◌≤◌, List, [], ◌∷◌, map, length, filter, true, false, inl, inr, refl, ap, sym, subst, ◌∙◌, arith, true≢false}
+use Rattle.std.proofs.Common.{◌≡◌, ℕ, suc, ◌+◌, ◌<◌, ◌≤◌, List, [], ◌∷◌, map, length, filter, true, false, inl, inr, refl, ap, sym, subst, ◌∙◌, arith, true≢false}
 use Rattle.std.specs.Prelude.{Some, slice_get, ◌==◌}
 use Rattle.std.specs.List.{AllByRecursion}
 use Rattle.std.proofs.lemmas.Bool.{eqb-true}

@@ -1,7 +1,6 @@
 -- The canonical graph by numbers gives the answer.
-use Rattle.std.proofs.Common.{◌≡◌, ℕ, suc, ◌+◌, List, [], ◌∷◌, ◌++◌, map, filter, Bool, true, false, cond, eqb, ◌⊎◌, ◌↔◌, inl, inr, refl, ap, ap₂, sym, subst, ◌∙◌, arith, true≢false, Option, Some, None, slice_get}
+use Rattle.std.proofs.Common.{◌≡◌, ℕ, suc, ◌+◌, List, [], ◌∷◌, ◌++◌, map, filter, Bool, true, false, cond, eqb, ◌↔◌, inl, inr, refl, ap, ap₂, sym, subst, ◌∙◌, arith, Option, Some, None, slice_get}
 use Rattle.std.specs.List.{flat_map}
-use Rattle.std.proofs.lemmas.Bool.Decides.{nat_tests}
 use Rattle.std.proofs.lemmas.Option.{same_Some}
 use Rattle.om_ring.specs.Members.{In, Different}
 use Rattle.om_ring.specs.Ops.{Ops, Laws, signed}
@@ -10,7 +9,7 @@ use Rattle.om_ring.proofs.SumLemmas.{sum_over-ext}
 use Rattle.om_model.specs.Tree.{Tree}
 use Rattle.om_model.specs.Diagrams.{AreDiagrams}
 use Rattle.om_model.specs.Theory.{Scattering}
-use Rattle.om_model.specs.Order.{IsOrder, BeforeAll, Rising, numbers_lt}
+use Rattle.om_model.specs.Order.{IsOrder, Rising, numbers_lt}
 use Rattle.om_model.specs.Event.{Event}
 use Rattle.om_model.specs.FeynmanRules.{FeynmanRules}
 use Rattle.om_model.specs.Lines.{Lines}
@@ -33,7 +32,7 @@ use Rattle.om_keystone.proofs.KeyedWaves.{KeyRules, meet, term_value, key_value,
 use Rattle.om_keystone.proofs.ModelRules.{KeyView, model_rules, AreSigns, ShowsParts, AreOpenedDiagrams}
 use Rattle.om_keystone.proofs.KeyedAnswer.{IsCanonical, same_by, terms_of, keys_of, graph_values, GraphAnswers}
 use Rattle.om_keystone.proofs.NumberedAnswer.{term_value_at, key_value_at, AreWavesAt, values_at, NumberedAnswers}
-use Rattle.om_keystone.specs.NodeWaves.{one_or_none, keys_at, indices_at, meet_at}
+use Rattle.om_keystone.specs.NodeWaves.{keys_at, indices_at, meet_at}
 use Rattle.om_keystone.proofs.Members.{from_flat_map, different_flat_map}
 use Rattle.om_keystone.proofs.Reached.{prune_is_exact}
 use Rattle.om_keystone.proofs.Grown.{same_by_is, is_same_by}

@@ -1,5 +1,5 @@
 -- The canonical graph of a process over its model: what pruning leaves, and its answer.
-use Rattle.std.proofs.Common.{◌≡◌, ℕ, List, map, ◌↔◌}
+use Rattle.std.proofs.Common.{ℕ, map, ◌↔◌}
 use Rattle.om_ring.specs.Ops.{Ops, Laws}
 use Rattle.om_legs.specs.Legs as sets
 use Rattle.om_model.specs.declared.model.Model.{Model}

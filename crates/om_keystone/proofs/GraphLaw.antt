@@ -1,5 +1,5 @@
 -- The answer of the canonical graph is the answer of all diagrams.
-use Rattle.std.proofs.Common.{◌≡◌, ℕ, ◌+◌, ◌<◌, List, [], ◌∷◌, map, filter, Bool, true, false, ◌↔◌, inl, inr, refl, ap, ap₂, sym, subst, ◌∙◌, arith, true≢false}
+use Rattle.std.proofs.Common.{◌≡◌, ℕ, ◌+◌, ◌<◌, List, [], ◌∷◌, map, filter, Bool, true, false, ◌↔◌, inl, inr, refl, ap, ap₂, sym, subst, ◌∙◌, arith}
 use Rattle.om_ring.specs.Members.{In, Different}
 use Rattle.om_ring.specs.Ops.{Ops, Laws, signed}
 use Rattle.om_ring.specs.Sums.{sum_over}

@@ -1,9 +1,7 @@
 -- The answer that a graph gives with the signs that stand in it is the one by keys.
-use Rattle.std.proofs.Common.{◌≡◌, ℕ, zero, suc, ◌<◌, ◌≤◌, List, [], ◌∷◌, ◌++◌, map, filter, Bool, true, false, cond, ◌⊎◌, inl, inr, ⊎_elim, refl, ap, ap₂, sym, subst, ◌∙◌, ◌↔◌, arith, true≢false}
-use Rattle.std.specs.Prelude.{Option, Some, None, slice_get, ◌==◌, nat_lt, if◌then◌else◌}
+use Rattle.std.proofs.Common.{◌≡◌, ℕ, suc, ◌≤◌, List, [], ◌∷◌, map, filter, Bool, true, false, cond, inl, inr, refl, ap, ap₂, sym, ◌∙◌, ◌↔◌}
+use Rattle.std.specs.Prelude.{Option, Some, None, slice_get, ◌==◌, if◌then◌else◌}
 use Rattle.std.proofs.lemmas.Bool.{eqb-true}
-use Rattle.std.proofs.lemmas.Bool.Decides.{nat_tests}
-use Rattle.std.proofs.lemmas.Option.{same_Some}
 use Rattle.om_ring.specs.Members.{In}
 use Rattle.om_ring.specs.Ops.{Ops, Laws, signed}
 use Rattle.om_ring.specs.Sums.{sum_over}
@@ -11,8 +9,6 @@ use Rattle.om_ring.proofs.SumLemmas.{sum_over-same, sum_over-ext}
 use Rattle.om_legs.specs.Legs as sets
 use Rattle.om_colour.specs.declared.Flow.{Flow}
 use Rattle.om_model.specs.Theory.{Scattering}
-use Rattle.om_model.specs.Tree.{Tree}
-use Rattle.om_model.specs.Tree.Tree.{leaf, join}
 use Rattle.om_model.specs.Event.{Event}
 use Rattle.om_model.specs.FeynmanRules.{FeynmanRules}
 use Rattle.om_model.specs.FermionLines.{Kinds}
@@ -20,23 +16,21 @@ use Rattle.om_model.specs.Propagator.{EdgeName}
 use Rattle.om_model.specs.Answer.{Answer}
 use Rattle.om_model.specs.Answer.Answer.{unbalanced, pole, values}
 use Rattle.om_model.specs.ModelLines.{kinds_of}
-use Rattle.om_model.specs.Model.{scattering_of}
 use Rattle.om_model.specs.Entries.{feynman_rules}
 use Rattle.om_model.proofs.Membership.{in_map}
 use Rattle.om_graph.specs.declared.Graph.{Graph}
 use Rattle.om_graph.specs.declared.Key.{Key}
 use Rattle.om_graph.specs.declared.KeyTerm.{KeyTerm}
 use Rattle.om_graph.specs.declared.Term.{Term}
-use Rattle.om_graph.specs.Fusion.{HasKey}
 use Rattle.om_graph.specs.Graph.{Numbered}
 use Rattle.om_graph.specs.Possible.{nodes_at, unsigned, unsigned_key}
 use Rattle.om_graph.specs.TreeKeys.{IsReaction}
 use Rattle.om_graph.specs.Vertices.{Reaction, fusion}
 use Rattle.om_graph.specs.Reactions.{reaction_of}
 use Rattle.om_graph.proofs.HaveReactions.{well_formed_have_reactions}
-use Rattle.om_keystone.specs.Built.{is_inner, terms_at, keys_at_flow}
+use Rattle.om_keystone.specs.Built.{terms_at, keys_at_flow}
 use Rattle.om_keystone.specs.CanonicalGraph.{IsCanonicalOf}
-use Rattle.om_keystone.specs.NodeWaves.{one_or_none, keys_at, indices_at, meet_at, node_indices, term_value, key_value, node_wave, AreNodeWaves, flow_values, HasPoleNode, GraphAnswers}
+use Rattle.om_keystone.specs.NodeWaves.{keys_at, indices_at, meet_at, node_indices, term_value, key_value, node_wave, AreNodeWaves, flow_values, HasPoleNode, GraphAnswers}
 use Rattle.om_keystone.specs.Laws.{CanonicalGraphGivesAnswer}
 use Rattle.om_keystone.proofs.AcceptedModels.{accepted_are_well_formed}
 use Rattle.om_keystone.proofs.KeyedAnswer.{IsInner}
@@ -45,7 +39,7 @@ use Rattle.om_keystone.proofs.KeyedWaves.{KeyRules}
 use Rattle.om_keystone.proofs.ModelRules.{model_rules}
 use Rattle.om_keystone.proofs.Nodes.{leg_or_inner, leg_is_leg, inner_is_inner, least_leg}
 use Rattle.om_keystone.proofs.NumberedAnswer.{term_value_at, key_value_at, AreWavesAt, NumberedAnswers, values_at}
-use Rattle.om_keystone.proofs.Numbers.{At, at_of, keys_are}
+use Rattle.om_keystone.proofs.Numbers.{at_of, keys_are}
 use Rattle.om_graph.proofs.SetNodes.{in_by_number}
 use Rattle.om_keystone.proofs.View.{key_view, flow_ends}
 use Rattle.om_keystone.proofs.CanonicalOf.{keyed_answers}

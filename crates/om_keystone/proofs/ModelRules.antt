@@ -1,15 +1,15 @@
 -- The rules of a model, by the keys of what meets.
-use Rattle.std.specs.Prelude.{◌≡◌, ℕ, ◌/◌, List, [], ◌∷◌, map, Bool, false, cond, ◌↔◌}
+use Rattle.std.specs.Prelude.{◌≡◌, ℕ, List, ◌∷◌, map, Bool, false, ◌↔◌}
 use Rattle.om_ring.specs.Members.{In}
 use Rattle.om_ring.specs.Ops.{Ops}
 use Rattle.om_model.specs.Theory.{Scattering}
 use Rattle.om_model.specs.Tree.{Tree, Branches}
 use Rattle.om_model.specs.Tree.Tree.{leaf, join}
 use Rattle.om_model.specs.Tree.Branches.{none, and}
-use Rattle.om_model.specs.Parts.{Part, part, others}
-use Rattle.om_model.specs.Event.{Event, Balances, members, momentum_of}
+use Rattle.om_model.specs.Parts.{Part, part}
+use Rattle.om_model.specs.Event.{Event, Balances}
 use Rattle.om_model.specs.FeynmanRules.{FeynmanRules}
-use Rattle.om_model.specs.Propagator.{EdgeName, inner_edges, edge_name, denominator, value_or_zero}
+use Rattle.om_model.specs.Propagator.{EdgeName, inner_edges, edge_name}
 use Rattle.om_model.specs.Lines.{Lines}
 use Rattle.om_model.specs.Value.{vertex_entry, sum_at_vertex, value}
 use Rattle.om_model.specs.Opened.{Opened}

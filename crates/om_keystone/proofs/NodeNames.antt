@@ -1,5 +1,5 @@
 -- The edges above nodes by the numbers of sets.
-use Rattle.std.proofs.Common.{◌≡◌, ℕ, ◌<◌, ◌≤◌, Bool, true, false, cond, not, ltb, ◌&&◌, refl, ap, sym, subst, ◌∙◌, arith}
+use Rattle.std.proofs.Common.{◌≡◌, ℕ, ◌≤◌, Bool, true, false, cond, not, ltb, ◌&&◌, refl, ap, sym, subst, ◌∙◌, arith}
 use Rattle.std.specs.Prelude.{if◌then◌else◌}
 use Rattle.std.proofs.lemmas.Bool.Decides.{nat_tests}
 use mathlib.Core.Path.{fun_ext}
@@ -15,15 +15,14 @@ use Rattle.om_model.specs.Spelled.{IsSubtree}
 use Rattle.om_model.specs.Tree.{Tree, legs}
 use Rattle.om_model.proofs.LegSets.{has_leg_set, same_set_number}
 use Rattle.om_graph.specs.declared.Key.{Key}
-use Rattle.om_graph.specs.Fusion.{HasKey}
 use Rattle.om_graph.specs.Reactions.{reaction_of}
-use Rattle.om_graph.specs.TreeKeys.{IsReaction, IsSide, key_of}
-use Rattle.om_graph.specs.Vertices.{Reaction, fusion}
+use Rattle.om_graph.specs.TreeKeys.{IsReaction, key_of}
+use Rattle.om_graph.specs.Vertices.{Reaction}
 use Rattle.om_graph.proofs.HaveReactions.{well_formed_have_reactions}
 use Rattle.om_graph.proofs.KeysOfSides.{side_of}
 use Rattle.om_keystone.specs.EdgeRules.{name_of}
 use Rattle.om_keystone.specs.NodeWaves.{part_of}
-use Rattle.om_keystone.specs.Laws.{side_without_leg_1, IsNamed, NodesHaveNames}
+use Rattle.om_keystone.specs.Laws.{IsNamed, NodesHaveNames}
 
 module _ (r : Reaction) (kinds : Kinds) (is : IsReaction r kinds) (t : Tree) (y : IsSubtree r.scattering t) where
   abbrev n : ℕ

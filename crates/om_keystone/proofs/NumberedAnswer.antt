@@ -1,5 +1,5 @@
 -- The answer to an event that the canonical graph gives, node by node in the order of their numbers.
-use Rattle.std.specs.Prelude.{◌≡◌, ℕ, suc, ◌≤◌, List, [], ◌∷◌, ◌++◌, filter, false, eqb, Option, Some, None, slice_get}
+use Rattle.std.specs.Prelude.{◌≡◌, ℕ, suc, ◌≤◌, List, [], ◌∷◌, filter, false, eqb, Some, slice_get}
 use Rattle.om_ring.specs.Ops.{Ops, signed}
 use Rattle.om_ring.specs.Sums.{sum_over}
 use Rattle.om_model.specs.Theory.{Scattering}

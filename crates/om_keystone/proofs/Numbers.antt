@@ -1,5 +1,5 @@
 -- Nodes by number.
-use Rattle.std.proofs.Common.{◌≡◌, ℕ, zero, suc, ◌+◌, ◌<◌, List, [], ◌∷◌, ◌++◌, map, filter, Bool, true, false, cond, ltb, ◌⊎◌, inl, inr, refl, ap, ap₂, sym, subst, ◌∙◌, arith, true≢false, Option, Some, None, slice_get}
+use Rattle.std.proofs.Common.{◌≡◌, ℕ, zero, suc, ◌+◌, ◌<◌, List, [], ◌∷◌, ◌++◌, map, filter, Bool, true, false, cond, ltb, ◌⊎◌, inl, inr, refl, ap, ap₂, sym, subst, ◌∙◌, arith, true≢false, Some, slice_get}
 use Rattle.std.specs.Prelude.{slice_index}
 use Rattle.std.proofs.lemmas.Option.{none-some, same_Some}
 use Rattle.std.proofs.lemmas.Bool.{lt-ltb}
@@ -8,7 +8,7 @@ use Rattle.om_ring.specs.Members.{In}
 use Rattle.om_model.specs.Order.{IsOrder, BeforeAll, Rising, numbers_lt}
 use Rattle.om_model.proofs.Membership.{in_filter}
 use Rattle.om_graph.specs.Graph.{and_then, at_numbers}
-use Rattle.om_graph.proofs.SetNodes.{then_some, some_then, number_of, in_by_number}
+use Rattle.om_graph.proofs.SetNodes.{then_some, some_then, number_of}
 use Rattle.om_keystone.specs.NodeWaves.{one_or_none, keys_at}
 use Rattle.om_keystone.specs.Pruning.{is_marked, marked_of, numbers_from}
 

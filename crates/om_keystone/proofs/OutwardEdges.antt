@@ -1,6 +1,5 @@
 -- The nodes, terms, keystone terms and flows of the canonical graph, in the words of diagrams.
-use Rattle.std.proofs.Common.{◌≡◌, List, true, ◌⊎◌, inl, inr, ⊎_elim, refl, ap, sym, subst, ◌∙◌}
-use Rattle.om_ring.specs.Members.{In}
+use Rattle.std.proofs.Common.{◌≡◌, List, true, inl, inr, refl, ap, sym, subst, ◌∙◌}
 use Rattle.om_colour.specs.declared.Flow.{Flow}
 use Rattle.om_model.specs.Theory.{Scattering}
 use Rattle.om_model.specs.Tree.{Tree, Branches}
@@ -20,9 +19,6 @@ use Rattle.om_graph.specs.Fusion.{HasKey, HaveKeys}
 use Rattle.om_keystone.proofs.Standing.{Stands, Within, stood}
 use Rattle.om_keystone.specs.InDiagrams.{IsOpened, IsOutward, IsFlowMet}
 use Rattle.om_keystone.proofs.Forms.{IsForm}
-use Rattle.std.proofs.lemmas.Bool.{and_parts}
-use Rattle.om_model.specs.Diagram.{is_diagram, all_in}
-use Rattle.om_model.specs.Diagrams.{has_edge}
 use Rattle.om_graph.specs.Vertices.{Reaction, fusion}
 use Rattle.om_graph.specs.TreeKeys.{colours_in, IsReaction, key_of}
 use Rattle.om_model.specs.ModelLines.{kinds_of}

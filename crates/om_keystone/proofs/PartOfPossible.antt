@@ -1,5 +1,5 @@
 -- What the canonical graph has stands in the possible graph.
-use Rattle.std.proofs.Common.{◌≡◌, ℕ, List, [], ◌∷◌, inl, inr, refl, ap, sym, subst, ◌∙◌}
+use Rattle.std.proofs.Common.{◌≡◌, ap, sym, ◌∙◌}
 use Rattle.std.specs.Prelude.{Some, slice_get}
 use Rattle.om_ring.specs.Members.{In}
 use Rattle.om_legs.specs.Legs as sets
@@ -10,7 +10,7 @@ use Rattle.om_graph.specs.declared.Graph.{Graph}
 use Rattle.om_graph.specs.declared.Key.{Key}
 use Rattle.om_graph.specs.declared.KeyTerm.{KeyTerm}
 use Rattle.om_graph.specs.declared.Term.{Term}
-use Rattle.om_graph.specs.Fusion.{Fusion, IsNode, AllNodes}
+use Rattle.om_graph.specs.Fusion.{IsNode}
 use Rattle.om_graph.specs.Graph.{at_numbers, Numbered}
 use Rattle.om_graph.specs.Possible.{IsPossible, nodes_at, unsigned, unsigned_key}
 use Rattle.om_graph.specs.Reactions.{reaction_of}
@@ -18,7 +18,7 @@ use Rattle.om_graph.specs.TreeKeys.{IsReaction}
 use Rattle.om_graph.specs.Vertices.{Reaction, fusion, fused_minus, closed_minus}
 use Rattle.om_graph.proofs.HaveReactions.{well_formed_have_reactions}
 use Rattle.om_keystone.specs.CanonicalGraph.{IsCanonicalOf}
-use Rattle.om_keystone.specs.Laws.{StandsIn, KeyStandsIn, IsPartOf, CanonicalIsPartOfPossible}
+use Rattle.om_keystone.specs.Laws.{StandsIn, KeyStandsIn, CanonicalIsPartOfPossible}
 use Rattle.om_graph.proofs.Lists.{in_mapped}
 use Rattle.om_keystone.proofs.Numbers.{of_at, at_all}
 use Rattle.om_graph.proofs.SetNodes.{number_of, in_by_number}

@@ -7,7 +7,7 @@ use Rattle.om_model.specs.Order.{IsOrder, BeforeAll, Rising, numbers_lt}
 use Rattle.om_model.proofs.Membership.{in_map, in_filter}
 use Rattle.om_graph.specs.Fusion.{Fusion, IsNode, AllNodes}
 use Rattle.om_graph.proofs.SetNodes.{nodes_of}
-use Rattle.om_keystone.specs.InDiagrams.{Term, KeyTerm, IsOutward, IsMet, IsKeyMet, IsFlowMet, IsOpened}
+use Rattle.om_keystone.specs.InDiagrams.{Term, KeyTerm, IsOutward, IsFlowMet}
 use Rattle.om_keystone.proofs.Reaching.{Reached, IsSettled}
 use Rattle.om_keystone.proofs.Reaching as canonical
 use Rattle.om_keystone.proofs.Reaching.Reached.{from_key, from_term}

@@ -1,5 +1,5 @@
 -- What hangs from edges of trees.
-use Rattle.std.proofs.Common.{◌≡◌, List, ◌⊎◌, inl, inr, ⊎_elim, refl, subst}
+use Rattle.std.proofs.Common.{◌≡◌, ◌⊎◌, inl, inr, ⊎_elim, refl, subst}
 use Rattle.om_ring.specs.Members.{In}
 use Rattle.om_model.specs.Tree.{Tree, Branches}
 use Rattle.om_model.specs.Tree.Tree.{leaf, join}

@@ -6,7 +6,6 @@ use Rattle.std.specs.Prelude.{slice_index, slice_set}
 use Rattle.om_graph.specs.Graph.{Numbered}
 use Rattle.om_graph.specs.declared.KeyTerm.{KeyTerm}
 use Rattle.om_graph.specs.declared.Term.{Term}
-use Rattle.om_keystone.proofs.Members.{map_map}
 use Rattle.om_keystone.specs.Pruning.{is_marked, mark_all, mark_keys, mark_terms, marks_of, marked_of, numbers_from, AreLow, renumbered, kept_terms, kept_signs}
 use Rattle.om_graph.specs.Possible.{unsigned, unsigned_key}
 

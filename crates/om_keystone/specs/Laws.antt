@@ -1,5 +1,5 @@
 -- Laws of the canonical graph, as statements.
-use Rattle.std.specs.Prelude.{◌≡◌, ℕ, List, map, true, Some, slice_get, if◌then◌else◌, ◌↔◌}
+use Rattle.std.specs.Prelude.{◌≡◌, ℕ, map, true, Some, slice_get, if◌then◌else◌, ◌↔◌}
 use Rattle.om_ring.specs.Members.{In}
 use Rattle.om_ring.specs.Ops.{Ops}
 use Rattle.om_legs.specs.Legs.{holds, complement}

@@ -1,5 +1,5 @@
 -- The wave functions of the nodes of a graph, and the answer to an event that they give.
-use Rattle.std.specs.Prelude.{◌≡◌, ℕ, suc, List, [], ◌∷◌, ◌++◌, map, Bool, true, false, if◌then◌else◌, Option, Some, None, slice_get}
+use Rattle.std.specs.Prelude.{◌≡◌, ℕ, suc, List, [], ◌∷◌, ◌++◌, map, true, false, if◌then◌else◌, Option, Some, None, slice_get}
 use Rattle.om_ring.specs.Members.{In}
 use Rattle.om_ring.specs.Ops.{Ops, signed}
 use Rattle.om_ring.specs.Sums.{sum_over}

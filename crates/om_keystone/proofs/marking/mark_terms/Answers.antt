@@ -1,4 +1,4 @@
-use Rattle.std.proofs.Common.{◌≡◌, ◌+◌, ◌-◌, length, drop, map, ap, sym, ◌∙◌, arith, rules, List}
+use Rattle.std.proofs.Common.{◌≡◌, ◌+◌, ◌-◌, drop, map, ap, sym, ◌∙◌, arith, rules, List}
 use Rattle.om_graph.specs.declared.Term.{Term}
 use Rattle.om_keystone.specs.Pruning.{mark_terms}
 use Rattle.om_graph.specs.Possible.{unsigned}

@@ -1,4 +1,4 @@
-use Rattle.std.proofs.Common.{◌≡◌, ◌∙◌, ap, sym, length, map, arith}
+use Rattle.std.proofs.Common.{◌≡◌, ◌∙◌, ap, sym, length, map}
 use Rattle.om_graph.specs.Possible.{unsigned, unsigned_key}
 use Rattle.om_keystone.proofs.Steps.{length-marks_of, low_numbers}
 use Rattle.om_keystone.proofs.pruned.reached_part.Goals as goal
