@@ -38,7 +38,7 @@ use Rattle.om_keystone.proofs.Members.{different_filter}
 use Rattle.om_keystone.proofs.NodeSums.{opened_exist, flow_is_sum, minus_zero}
 use Rattle.om_keystone.proofs.ModelWaves.{name_is, signed_wave, are_tree_waves, opened_sum}
 
-pub rising_map : {A B : Type 0} (f : A → B) (lt : A → A → Bool) (before : B → B → Bool) → ((x y : A) → lt x y ≡ before (f x) (f y)) → (xs : List A) → Rising lt xs → Rising before (map f xs)
+rising_map : {A B : Type 0} (f : A → B) (lt : A → A → Bool) (before : B → B → Bool) → ((x y : A) → lt x y ≡ before (f x) (f y)) → (xs : List A) → Rising lt xs → Rising before (map f xs)
 rising_map f lt before h [] r = tt
 rising_map {A} f lt before h (x ∷ xs) r = (before_all x xs r.0, rising_map f lt before h xs r.1)
   where
@@ -151,7 +151,7 @@ module _ {K F : Type 0} (p : Fusion K F) (lt : K → K → Bool) (order : IsOrde
         (k.0, subst (IsOpened p k.0) q k.2, k.3)
 
     -- a flow's keystone terms give the sum of its diagrams
-    pub flow_value : Balances o e s.size → (u : F) → sum_over o (keys u) (key_value o (model_rules o s r e view) p node) ≡ value_of_flow o s r w e ts (ends u)
+    flow_value : Balances o e s.size → (u : F) → sum_over o (keys u) (key_value o (model_rules o s r e view) p node) ≡ value_of_flow o s r w e ts (ends u)
     unfolding with_flow diagram_value
     flow_value balanced u =
         let most = total rank ns in
@@ -168,7 +168,7 @@ module _ {K F : Type 0} (p : Fusion K F) (lt : K → K → Bool) (order : IsOrde
           (λ t i. let k = from_flow u t i in let P : Tree → Type 0 = λ x. In x (map hung list) in subst P k.2 (in_map hung k.0 list ((found.1.members k.0).1 k.1))),
         )
 
-    pub flows_are : map ends ws ≡ flows o s r w e ts
+    flows_are : map ends ws ≡ flows o s r w e ts
     flows_are =
         rising_unique numbers_lt numbers_order (map ends ws) (rising_of numbers_lt (map w.flow ts)) (rising_map ends before numbers_lt by_ends ws flows_rise) (rising_of_rising numbers_lt numbers_order (map w.flow ts))
         (λ z i.
@@ -192,7 +192,7 @@ module _ {K F : Type 0} (p : Fusion K F) (lt : K → K → Bool) (order : IsOrde
     inner_join (join f v c bs) k inner has = is_join
 
     -- the inner edges of the diagrams are the inner nodes
-    pub from_node : (name : EdgeName) → HasPoleNode o s r e p view ends ns name → HasPole o s r w e ts name
+    from_node : (name : EdgeName) → HasPoleNode o s r e p view ends ns name → HasPole o s r w e ts name
     from_node name h =
         let d = (nodes h.node).0 h.is_node in
         let t = d.0 in
@@ -208,7 +208,7 @@ module _ {K F : Type 0} (p : Fusion K F) (lt : K → K → Bool) (order : IsOrde
         let b : rank k ≡ 1 = ap rank q ∙ ok.leg_rank j low high in
         omega arith
 
-    pub to_node : (name : EdgeName) → HasPole o s r w e ts name → HasPoleNode o s r e p view ends ns name
+    to_node : (name : EdgeName) → HasPole o s r w e ts name → HasPoleNode o s r e p view ends ns name
     to_node name h =
         let k = opens.has_keystone h.diagram h.is_diagram in
         let edge : HasEdge s h.diagram name = (h.edge, h.is_edge, h.is_named) in
@@ -223,7 +223,7 @@ module _ {K F : Type 0} (p : Fusion K F) (lt : K → K → Bool) (order : IsOrde
         }
 
     -- the answer of the graph is the answer of the diagrams
-    pub graph_answers : (a : Answer E) → GraphAnswers o s r e p view ends ns keys ws node a ↔ Answers o s r w e ts a
+    graph_answers : (a : Answer E) → GraphAnswers o s r e p view ends ns keys ws node a ↔ Answers o s r w e ts a
     graph_answers unbalanced = ((λ h. h), (λ h. h))
     graph_answers (pole name) = (
       (λ h. (h.0, from_node name h.1, λ other g. h.2 other (to_node other g))),

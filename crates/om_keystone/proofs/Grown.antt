@@ -47,7 +47,7 @@ tail : Branches → Branches
 tail none = none
 tail (and t bs) = bs
 
-pub branches_of : Tree → Branches
+branches_of : Tree → Branches
 branches_of (leaf k) = none
 branches_of (join f v c bs) = bs
 

@@ -26,10 +26,10 @@ pub mod ClosingForms
 pub mod KeySigns
 pub mod Telling
 pub mod OutwardEdges
-pub mod CanonicalOf
+pub mod Canonical
 pub mod Nodes
 pub mod BuiltGraph
 pub mod PartOfPossible
-pub mod GraphSigns
+pub mod GraphAnswer
 pub mod AcceptedModels
 pub mod NodeNames

@@ -83,7 +83,7 @@ module _ (m : ℕ → Type 0) where
 
 -- marks before the terms are gone over, as a list and as what they mean
 module _ (marks : List Bool) (m : ℕ → Type 0) where
-  pub to_reaches : ((n : ℕ) → is_marked marks n ≡ true → m n) → (xs : List Numbered) (k : ℕ) → is_marked (mark_terms marks xs) k ≡ true → Reaches xs m k
+  to_reaches : ((n : ℕ) → is_marked marks n ≡ true → m n) → (xs : List Numbered) (k : ℕ) → is_marked (mark_terms marks xs) k ≡ true → Reaches xs m k
   unfolding mark_terms
   to_reaches first [] k h = at_first (first k h)
   to_reaches first (x ∷ xs) k h = by (is_marked (mark_terms marks xs) x.made) refl (λ n. to_reaches first xs n) h
@@ -92,7 +92,7 @@ module _ (marks : List Bool) (m : ℕ → Type 0) where
       by false e ih h = wider m x xs k (ih k h)
       by true e ih h = ⊎_elim (λ i. along x (inl refl) (wider m x xs x.made (ih x.made e)) i) (λ g. wider m x xs k (ih k g)) (all_cases (mark_terms marks xs) x.branches k h)
 
-  pub from_reaches : ((n : ℕ) → n < length marks → m n → is_marked marks n ≡ true) → (xs : List Numbered) → InRank xs → ((x : Numbered) → In x xs → x.made < length marks) → (k : ℕ) → k < length marks → Reaches xs m k → is_marked (mark_terms marks xs) k ≡ true
+  from_reaches : ((n : ℕ) → n < length marks → m n → is_marked marks n ≡ true) → (xs : List Numbered) → InRank xs → ((x : Numbered) → In x xs → x.made < length marks) → (k : ℕ) → k < length marks → Reaches xs m k → is_marked (mark_terms marks xs) k ≡ true
   unfolding mark_terms
   from_reaches first [] r w k l (at_first e) = first k l e
   from_reaches first [] r w k l (along y i s j) = absurd i

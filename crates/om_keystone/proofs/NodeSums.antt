@@ -26,7 +26,7 @@ module _ {E : Type 0} (o : Ops E) (l : Laws o) where
   pub minus_zero : o.minus o.zero ≡ o.zero
   minus_zero = sym (minus_unique o l o.zero o.zero (l.plus_zero o.zero))
 
-  pub minus_sum : {A : Type 0} (xs : List A) (f : A → E) → o.minus (sum_over o xs f) ≡ sum_over o xs (λ x. o.minus (f x))
+  minus_sum : {A : Type 0} (xs : List A) (f : A → E) → o.minus (sum_over o xs f) ≡ sum_over o xs (λ x. o.minus (f x))
   minus_sum [] f = minus_zero
   minus_sum (x ∷ xs) f = minus_plus o l (f x) (sum_over o xs f) ∙ ap (o.plus (o.minus (f x))) (minus_sum xs f)
 
@@ -36,7 +36,7 @@ module _ {E : Type 0} (o : Ops E) (l : Laws o) where
 
   module _ {K : Type 0} (rules : KeyRules E K) (wave : Tree → ℕ → E) (node : K → ℕ → E) (g : K → List Tree) where
     -- the contractions over all branches of some nodes add up to that of the nodes
-    pub all_meet : (ks : List K) → ((k : K) → In k ks → (i : ℕ) → node k i ≡ sum_over o (g k) (λ t. wave t i)) → (entry : List ℕ → E)
+    all_meet : (ks : List K) → ((k : K) → In k ks → (i : ℕ) → node k i ≡ sum_over o (g k) (λ t. wave t i)) → (entry : List ℕ → E)
         → sum_over o (choose g ks) (λ bs. meet_trees o rules wave bs ks entry) ≡ meet o rules node ks entry
     unfolding choose meet meet_trees
     all_meet [] h entry = l.plus_zero (entry [])
@@ -101,7 +101,7 @@ module _ {E : Type 0} (o : Ops E) (l : Laws o) where
     one_leg j [] h d = refl
     one_leg j (m ∷ js) h d = absurd (d.0 (subst (λ u. In u (m ∷ js)) (h m (inr (inl refl))) (inl refl)))
 
-    pub node_is_sum : (n : ℕ) (k : K) → kept k → rank k < n → (i : ℕ) → node k i ≡ sum_over o (trees n k) (λ t. wave t i)
+    node_is_sum : (n : ℕ) (k : K) → kept k → rank k < n → (i : ℕ) → node k i ≡ sum_over o (trees n k) (λ t. wave t i)
     unfolding grown
     node_is_sum zero k a h i = absurd (omega arith)
     node_is_sum (suc n) k a h i = by (legs_with p lt terms k) (inner_sum n k i a h (λ b c e. node_is_sum n b c e)) (λ j. leg_with p lt order rank ok kept terms are k j) (legs_differ p lt order rank ok kept terms are k)
@@ -119,7 +119,7 @@ module _ {E : Type 0} (o : Ops E) (l : Laws o) where
             ∙ ap₂ (λ (xs : List ℕ) (ys : List (Term K)). sum_over o (map leaf (j ∷ xs) ++ flat_map (joins p.field (grown p lt terms n)) ys) (λ t. wave t i)) (sym alone) (sym none_here)
 
     -- the diagrams of a keystone term, opened there
-    abbrev pub opened_by : ℕ → KeyTerm K F → List Opened
+    abbrev opened_by : ℕ → KeyTerm K F → List Opened
     opened_by n y = map (λ bs. record { vertex = y.vertex; choice = y.choice; parts = bs }) (choose (grown p lt terms n) y.branches)
 
     module _ (most : ℕ) (below : (k : K) → kept k → rank k < most) (value : Opened → E) (values : AreOpenedValues o rules p wave value) (w : F) (ys : List (KeyTerm K F)) (keys : AreKeysOf p kept w ys) where

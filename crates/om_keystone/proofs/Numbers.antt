@@ -97,7 +97,7 @@ from_kept (true ∷ m) (y ∷ xs) zero x e = (zero, e, refl)
 from_kept (true ∷ m) (y ∷ xs) (suc j) x e = let r = from_kept m xs j x e in (suc r.0, r.1, r.2)
 from_kept (false ∷ m) (y ∷ xs) j x e = let r = from_kept m xs j x e in (suc r.0, r.1, r.2)
 
-pub in_kept : {A : Type 0} (m : List Bool) (xs : List A) (x : A) → In x (marked_of m xs) → In x xs
+in_kept : {A : Type 0} (m : List Bool) (xs : List A) (x : A) → In x (marked_of m xs) → In x xs
 unfolding marked_of
 in_kept [] xs x i = absurd i
 in_kept (b ∷ m) [] x i = absurd i

@@ -92,7 +92,7 @@ module _ {K F : Type 0} (p : Fusion K F) where
       mutual
         unfolding HasKey
 
-        pub one_key : (t : Tree) (j k : K) → HasKey p t j → HasKey p t k → j ≡ k
+        one_key : (t : Tree) (j k : K) → HasKey p t j → HasKey p t k → j ≡ k
         one_key (leaf n) j k g h = g.2 ∙ sym h.2
         one_key (join f v c bs) j k g h = ok.fuse_once f v c g.0 j k g.2 (subst (λ ks. p.fuses f v c ks k) (sym (same_keys bs g.0 h.0 g.1 h.1)) h.2)
 

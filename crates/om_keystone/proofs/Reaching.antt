@@ -34,7 +34,6 @@ module _ {K F : Type 0} (p : Fusion K F) where
   pub record IsSettled (rank : K → ℕ) : Type 0 where
     pub has_field : (f v c : ℕ) (ks : List K) (k : K) → p.fuses f v c ks k → p.field k ≡ f
     pub fuse_once : (f v c : ℕ) (ks : List K) (j k : K) → p.fuses f v c ks j → p.fuses f v c ks k → j ≡ k
-    pub close_once : (v c : ℕ) (ks : List K) (u w : F) → p.closes v c ks u → p.closes v c ks w → u ≡ w
     -- legs have the least rank, and what is fused has a greater one than its branches
     pub leg_rank : (j : ℕ) → 1 ≤ j → j ≤ p.size → rank (p.leg j) ≡ 1
     pub fused_rank : (f v c : ℕ) (ks : List K) (k : K) → p.fuses f v c ks k → 1 < rank k

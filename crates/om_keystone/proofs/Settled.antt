@@ -116,7 +116,6 @@ module _ (r : Reaction) where
     is_settled = record {
       has_field = λ f v c ks k h. h.has_field;
       fuse_once = fused_once;
-      close_once = λ v c ks u w h g. h.flow ∙ sym g.flow;
       leg_rank = one_leg;
       fused_rank = fused_some;
       rises = fused_part;

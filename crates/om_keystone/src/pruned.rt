@@ -48,7 +48,7 @@ pub fn prune(
     process: &Process,
     graph: Graph,
 ) -> Result<Pruned, NoMemory>
-    requires model { IsWellFormed model.now }
+    requires accepted { IsWellFormed model.now }
     requires process { IsProcessOf model.now process.now }
     requires possible { IsPossible (reaction_of model.now process.now) graph }
     ensures canonical { IfOk result (λ pruned. IsCanonicalOf (reaction_of model.now process.now) pruned) }

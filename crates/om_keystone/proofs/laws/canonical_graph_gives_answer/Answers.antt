@@ -1,5 +1,5 @@
 use Rattle.om_ring.specs.Ops.{laws_from}
-use Rattle.om_keystone.proofs.GraphSigns.{canonical_graph_gives_answer}
+use Rattle.om_keystone.proofs.GraphAnswer.{canonical_graph_gives_answer}
 use Rattle.om_keystone.proofs.laws.canonical_graph_gives_answer.Goals as goal
 
 pub returns : goal.returns

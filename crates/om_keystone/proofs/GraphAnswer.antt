@@ -42,7 +42,7 @@ use Rattle.om_keystone.proofs.NumberedAnswer.{term_value_at, key_value_at, AreWa
 use Rattle.om_keystone.proofs.Numbers.{at_of, keys_are}
 use Rattle.om_graph.proofs.SetNodes.{in_by_number}
 use Rattle.om_keystone.proofs.View.{key_view, flow_ends}
-use Rattle.om_keystone.proofs.CanonicalOf.{keyed_answers}
+use Rattle.om_keystone.proofs.Canonical.{keyed_answers}
 
 -- sums over the members that pass a test, before and after a change of each
 sum_changed : {E A B : Type 0} (o : Ops E) (f : A → B) (q : B → Bool) (a : A → E) (b : B → E) (xs : List A) → ((x : A) → In x xs → q (f x) ≡ true → a x ≡ b (f x)) → sum_over o (filter (λ x. q (f x)) xs) a ≡ sum_over o (filter q (map f xs)) b
