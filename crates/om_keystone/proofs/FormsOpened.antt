@@ -71,7 +71,7 @@ pub counts_diagram : (s : Scattering) (t : Tree) → counts s t ≡ true → is_
 unfolding counts
 counts_diagram s t h = (and_parts (is_diagram s t) (all_in (λ set. has_edge s set t) s.edges) h).0
 
-signs_all_are : (s : Scattering) (kinds : Kinds) (v : ℕ) (bs : Branches) → signs_at s kinds v bs ≡ xor (vertex_sign s kinds v (branch_parts s kinds bs)) (odd_all (signs_in s kinds) bs)
+pub signs_all_are : (s : Scattering) (kinds : Kinds) (v : ℕ) (bs : Branches) → signs_at s kinds v bs ≡ xor (vertex_sign s kinds v (branch_parts s kinds bs)) (odd_all (signs_in s kinds) bs)
 unfolding signs_at signs_in odd_all
 signs_all_are s kinds v bs = ap (xor (vertex_sign s kinds v (branch_parts s kinds bs))) (all bs)
   where

@@ -33,3 +33,4 @@ pub mod PartOfPossible
 pub mod GraphAnswer
 pub mod AcceptedModels
 pub mod NodeNames
+pub mod TermSigns

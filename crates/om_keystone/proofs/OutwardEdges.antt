@@ -70,7 +70,7 @@ module _ (r : Reaction) (kinds : Kinds) (is : IsReaction r kinds) where
         },
       )
 
-  form_of : (a : Opened) (t : Tree) → counts s t ≡ true → IsKeystoneForm s t a → IsForm s a
+  pub form_of : (a : Opened) (t : Tree) → counts s t ≡ true → IsKeystoneForm s t a → IsForm s a
   form_of a t c f = record { opened = f.opened; keystone = f.keystone; counted = subst (λ x. counts s x ≡ true) (sym f.hangs) c }
 
   node_is : (k : Key) (t : Tree) → counts s t ≡ true → IsOutwardEdge s (colours_in r) t (edge_of k) → IsOutward (fusion r) k

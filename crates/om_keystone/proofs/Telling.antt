@@ -56,7 +56,7 @@ module _ (r : Reaction) (kinds : Kinds) (is : IsReaction r kinds) where
   all_signs none = refl
   all_signs (and t bs) = ap (xor (signs_in s kinds t)) (all_signs bs)
 
-  join_sign : (f v c : ℕ) (bs : Branches) (ks : List Key) (k : Key) → HaveKeys (fusion r) bs ks → Fuses r f v c ks k → signs_in s kinds (join f v c bs) ≡ xor (fused_minus r k.field v k.legs ks) (odd_all (signs_in s kinds) bs)
+  pub join_sign : (f v c : ℕ) (bs : Branches) (ks : List Key) (k : Key) → HaveKeys (fusion r) bs ks → Fuses r f v c ks k → signs_in s kinds (join f v c bs) ≡ xor (fused_minus r k.field v k.legs ks) (odd_all (signs_in s kinds) bs)
   unfolding signs_in field_of
   join_sign f v c bs ks k have fuse =
       let y = sides_of r kinds is bs ks have in
@@ -70,7 +70,7 @@ module _ (r : Reaction) (kinds : Kinds) (is : IsReaction r kinds) where
   unfolding signs_in
   signs_are = record { at_leg = λ j. refl; at_join = join_sign }
 
-  keystone_sign_is : (a : Opened) (u : Flow) (h : IsOpened (fusion r) a u) → vertex_sign s kinds a.vertex (branch_parts s kinds a.parts) ≡ closed_minus r a.vertex h.keys
+  pub keystone_sign_is : (a : Opened) (u : Flow) (h : IsOpened (fusion r) a u) → vertex_sign s kinds a.vertex (branch_parts s kinds a.parts) ≡ closed_minus r a.vertex h.keys
   keystone_sign_is a u h =
       let y = sides_of r kinds is a.parts h.keys h.have in
       let f = forms_of r kinds is a u h in

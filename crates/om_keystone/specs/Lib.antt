@@ -6,3 +6,4 @@ pub mod Built
 pub mod EdgeRules
 pub mod NodeWaves
 pub mod Laws
+pub mod TermSigns

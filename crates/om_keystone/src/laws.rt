@@ -1,5 +1,6 @@
 //! Laws of the canonical graph. Each is the contract of a function that does nothing.
 ghost use Rattle.om_keystone.specs.Laws.{CanonicalGraphGivesAnswer, CanonicalIsBuilt, CanonicalIsPartOfPossible, FlowsAreTheirs, KeysAreKeystones, NodesAreEdges, NodesHaveNames, TermsAreVertices};
+ghost use Rattle.om_keystone.specs.TermSigns.{SignsOfTermsMultiply};
 
 use om_ring::Ring;
 
@@ -15,6 +16,11 @@ pub fn canonical_graph_is_of_diagrams()
     ensures terms { TermsAreVertices }
     ensures keys { KeysAreKeystones }
     ensures flows { FlowsAreTheirs }
+{}
+
+/// The sign of a diagram is the product of the signs of the keystone term and of the terms that it uses.
+pub fn signs_of_terms_multiply()
+    ensures { SignsOfTermsMultiply }
 {}
 
 /// The edge above a node of the canonical graph is named by its side without leg 1, a set as a number, and the field that leaves that side.
