@@ -77,7 +77,7 @@ in_order k (t ∷ u ∷ us) low r =
     later (y ∷ ys) b x (inr i) = later ys b.1 x i
 
 module _ (r : Reaction) (kinds : Kinds) (is : IsReaction r kinds) (g : Graph) (canonical : IsCanonicalOf r g) where
-  built_up : IsBuiltUp (fusion r) (IsInner (fusion r)) g.nodes (map unsigned g.terms) (map unsigned_key g.keys) g.flows
+  pub built_up : IsBuiltUp (fusion r) (IsInner (fusion r)) g.nodes (map unsigned g.terms) (map unsigned_key g.keys) g.flows
   built_up = is_built_up (fusion r) key_lt key_order flow_lt (λ (k : Key). sets.size k.legs) (is_settled r kinds is) (branches_first r) g.nodes (map unsigned g.terms) (map unsigned_key g.keys) g.flows canonical.graph
 
   node_built : (n : ℕ) (node : Key) → slice_get g.nodes n ≡ Some node → NodeIsBuilt g.terms n node

@@ -32,7 +32,6 @@ use Rattle.om_keystone.specs.Built.{terms_at, keys_at_flow}
 use Rattle.om_keystone.specs.CanonicalGraph.{IsCanonicalOf}
 use Rattle.om_keystone.specs.NodeWaves.{keys_at, indices_at, meet_at, node_indices, term_value, key_value, node_wave, AreNodeWaves, flow_values, HasPoleNode, GraphAnswers}
 use Rattle.om_keystone.specs.Laws.{CanonicalGraphGivesAnswer}
-use Rattle.om_keystone.proofs.AcceptedModels.{accepted_are_well_formed}
 use Rattle.om_keystone.proofs.KeyedAnswer.{IsInner}
 use Rattle.om_keystone.proofs.KeyedAnswer as keyed
 use Rattle.om_keystone.proofs.KeyedWaves.{KeyRules}
@@ -154,10 +153,10 @@ module _ {E : Type 0} (o : Ops E) (r : Reaction) (kinds : Kinds) (is : IsReactio
     )
 
 pub canonical_graph_gives_answer : {E : Type 0} (o : Ops E) → Laws o → CanonicalGraphGivesAnswer o
-canonical_graph_gives_answer {E} o l m p accepted is g canonical t e wave waves a =
+canonical_graph_gives_answer {E} o l m p formed is g canonical t e wave waves a =
     let r = reaction_of m p in
-    let reaction = well_formed_have_reactions m p (accepted_are_well_formed o m accepted) is in
+    let reaction = well_formed_have_reactions m p formed is in
     let f = feynman_rules o m t in
     let same = same_answers o r (kinds_of m.particles) reaction g canonical f e wave waves a in
-    let answers = keyed_answers o l m p accepted is g canonical t e (extended o r (kinds_of m.particles) reaction g canonical f e wave) (waves_are o r (kinds_of m.particles) reaction g canonical f e wave waves) a in
+    let answers = keyed_answers o l m p formed is g canonical t e (extended o r (kinds_of m.particles) reaction g canonical f e wave) (waves_are o r (kinds_of m.particles) reaction g canonical f e wave waves) a in
     ((λ h. answers.0 (same.0 h)), (λ h. same.1 (answers.1 h)))

@@ -31,6 +31,6 @@ pub mod Nodes
 pub mod BuiltGraph
 pub mod PartOfPossible
 pub mod GraphAnswer
-pub mod AcceptedModels
 pub mod NodeNames
 pub mod TermSigns
+pub mod WavesExist

@@ -10,7 +10,6 @@ use Rattle.om_model.specs.Model.{scattering_of}
 use Rattle.om_model.specs.ModelLines.{colours_of, lines_of}
 use Rattle.om_model.specs.FeynmanRules.{Table}
 use Rattle.om_model.specs.Entries.{feynman_rules}
-use Rattle.om_model.specs.Rules.{IsAccepted}
 use Rattle.om_model.specs.Tree.{Tree, Branches}
 use Rattle.om_model.specs.Tree.Tree.{join}
 use Rattle.om_model.specs.Diagrams.{counts}
@@ -31,7 +30,8 @@ use Rattle.om_graph.specs.Possible.{IsPossible, nodes_at, unsigned, unsigned_key
 use Rattle.om_graph.specs.Reactions.{reaction_of}
 use Rattle.om_graph.specs.TreeKeys.{colours_in, key_of, keys_of}
 use Rattle.om_graph.specs.Vertices.{Reaction}
-use Rattle.om_graph.specs.WellFormed.{IsWellFormed, IsProcessOf}
+use Rattle.om_model.specs.WellFormed.{IsWellFormed}
+use Rattle.om_model.specs.ProcessOf.{IsProcessOf}
 use Rattle.om_keystone.specs.Built.{IsBuilt}
 use Rattle.om_keystone.specs.CanonicalGraph.{IsCanonicalOf}
 use Rattle.om_keystone.specs.EdgeRules.{name_of}
@@ -139,11 +139,15 @@ NodesHaveNames = OfCanonicalGraphs (λ m p g. (k : Key)
 abbrev pub CanonicalIsBuilt : Type 0
 CanonicalIsBuilt = OfCanonicalGraphs (λ m p g. IsBuilt g)
 
+-- its nodes have wave functions, with the numbers of any table
+abbrev pub NodesHaveWaves : {E : Type 0} → Ops E → Type 0
+NodesHaveWaves {E} o = OfCanonicalGraphs (λ m p g. (t : Table E) (e : Event E)
+    → (wave : ℕ → ℕ → E) × AreNodeWaves o (scattering_of m p) (feynman_rules o m t) e g wave)
+
 -- The answer of the canonical graph, with the numbers of any table, is the answer to the event: the sum over all diagrams of each flow is
 -- the sum over its keystone terms, and the poles of the diagrams are those of the inner nodes.
 abbrev pub CanonicalGraphGivesAnswer : {E : Type 0} → Ops E → Type 0
-CanonicalGraphGivesAnswer {E} o =
-    (m : Model) (p : Process) → IsAccepted o m → IsProcessOf m p → (g : Graph) → IsCanonicalOf (reaction_of m p) g
-    → (t : Table E) (e : Event E) (wave : ℕ → ℕ → E) → AreNodeWaves o (scattering_of m p) (feynman_rules o m t) e g wave
+CanonicalGraphGivesAnswer {E} o = OfCanonicalGraphs (λ m p g. (t : Table E) (e : Event E) (wave : ℕ → ℕ → E)
+    → AreNodeWaves o (scattering_of m p) (feynman_rules o m t) e g wave
     → (a : Answer E) → GraphAnswers o (scattering_of m p) (feynman_rules o m t) e g wave a
-    ↔ IsAnswer o (scattering_of m p) (feynman_rules o m t) (lines_of m p) e a
+    ↔ IsAnswer o (scattering_of m p) (feynman_rules o m t) (lines_of m p) e a)

@@ -15,7 +15,8 @@ use Rattle.om_model.specs.Opened.{Opened}
 use Rattle.om_graph.specs.Reactions.{reaction_of}
 use Rattle.om_graph.specs.TreeKeys.{keys_of}
 use Rattle.om_graph.specs.Vertices.{Reaction, fused_minus, closed_minus}
-use Rattle.om_graph.specs.WellFormed.{IsWellFormed, IsProcessOf}
+use Rattle.om_model.specs.WellFormed.{IsWellFormed}
+use Rattle.om_model.specs.ProcessOf.{IsProcessOf}
 
 module _ (r : Reaction) where
   -- whether an odd number of the terms at the vertices of a tree, and of what hangs from a vertex, have the sign -1

@@ -1,5 +1,5 @@
 //! Laws of the canonical graph. Each is the contract of a function that does nothing.
-ghost use Rattle.om_keystone.specs.Laws.{CanonicalGraphGivesAnswer, CanonicalIsBuilt, CanonicalIsPartOfPossible, FlowsAreTheirs, KeysAreKeystones, NodesAreEdges, NodesHaveNames, TermsAreVertices};
+ghost use Rattle.om_keystone.specs.Laws.{CanonicalGraphGivesAnswer, CanonicalIsBuilt, CanonicalIsPartOfPossible, FlowsAreTheirs, KeysAreKeystones, NodesAreEdges, NodesHaveNames, NodesHaveWaves, TermsAreVertices};
 ghost use Rattle.om_keystone.specs.TermSigns.{SignsOfTermsMultiply};
 
 use om_ring::Ring;
@@ -33,9 +33,11 @@ pub fn canonical_is_built()
     ensures { CanonicalIsBuilt }
 {}
 
-/// The answer of the canonical graph of a process over an accepted model is the answer to the event.
+/// The nodes of the canonical graph have wave functions, and with them the answer of the canonical graph of a process over a well-formed
+/// model, with the numbers of any table, is the answer to the event.
 pub fn canonical_graph_gives_answer<R: Ring>(ring: &R)
-    ensures { CanonicalGraphGivesAnswer (R.ops ring.now) }
+    ensures waves { NodesHaveWaves (R.ops ring.now) }
+    ensures answer { CanonicalGraphGivesAnswer (R.ops ring.now) }
 {
     let _ring = ring;
 }

@@ -2,7 +2,8 @@
 ghost use Rattle.std.specs.Prelude.{◌≡◌, ◌≤◌, IfOk, length, map};
 ghost use Rattle.om_graph.specs.Possible.{IsPossible, nodes_at, unsigned, unsigned_key};
 ghost use Rattle.om_graph.specs.Reactions.{reaction_of};
-ghost use Rattle.om_graph.specs.WellFormed.{IsProcessOf, IsWellFormed};
+ghost use Rattle.om_model.specs.WellFormed.{IsWellFormed};
+ghost use Rattle.om_model.specs.ProcessOf.{IsProcessOf};
 ghost use Rattle.om_keystone.specs.CanonicalGraph.{IsCanonicalOf};
 ghost use Rattle.om_keystone.specs.Pruning.{AreLow, IsReachedPart, kept_signs, kept_terms, marked_of, new_number, numbers_from, renumbered_key};
 
