@@ -1,6 +1,5 @@
 -- The sign of a diagram is the product of the signs of its terms.
-use Rattle.std.proofs.Common.{◌≡◌, ℕ, List, Bool, true, refl, ap, ap₂, sym, subst, ◌∙◌}
-use Rattle.om_colour.specs.declared.Flow.{Flow}
+use Rattle.std.proofs.Common.{◌≡◌, List, true, refl, ap, ap₂, sym, ◌∙◌}
 use Rattle.om_model.specs.Tree.{Tree, Branches}
 use Rattle.om_model.specs.Tree.Tree.{leaf, join}
 use Rattle.om_model.specs.Tree.Branches.{none, and}
@@ -9,7 +8,6 @@ use Rattle.om_model.specs.Diagrams.{counts}
 use Rattle.om_model.specs.FermionLines.{Kinds, signs_in}
 use Rattle.om_model.specs.Inversions.{xor}
 use Rattle.om_model.specs.KeystoneForm.{IsKeystoneForm}
-use Rattle.om_model.specs.LegSets.{leg_set}
 use Rattle.om_model.specs.ModelLines.{kinds_of, lines_by}
 use Rattle.om_model.specs.Opened.{Opened}
 use Rattle.om_model.proofs.HungLaws.{opened_has_sign}
