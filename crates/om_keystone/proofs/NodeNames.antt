@@ -22,7 +22,8 @@ use Rattle.om_graph.proofs.HaveReactions.{well_formed_have_reactions}
 use Rattle.om_graph.proofs.KeysOfSides.{side_of}
 use Rattle.om_keystone.specs.EdgeRules.{name_of}
 use Rattle.om_keystone.specs.NodeWaves.{part_of}
-use Rattle.om_keystone.specs.Laws.{IsNamed, NodesHaveNames}
+use Rattle.om_keystone.specs.Laws.{NodesHaveNames}
+use Rattle.om_keystone.specs.NodeNames.{IsNamed}
 
 module _ (r : Reaction) (kinds : Kinds) (is : IsReaction r kinds) (t : Tree) (y : IsSubtree r.scattering t) where
   abbrev n : ℕ

@@ -27,7 +27,8 @@ use Rattle.om_graph.proofs.HaveReactions.{well_formed_have_reactions}
 use Rattle.om_graph.specs.declared.Graph.{Graph}
 use Rattle.om_graph.specs.Graph.{Numbered}
 use Rattle.om_keystone.specs.CanonicalGraph.{IsMetAt, IsKeyMetAt}
-use Rattle.om_keystone.specs.Laws.{edge_of, NodesAreEdges, FlowsAreTheirs, IsVertexOf, TermsAreVertices, IsKeystoneOf, KeysAreKeystones}
+use Rattle.om_keystone.specs.Laws.{NodesAreEdges, FlowsAreTheirs, TermsAreVertices, KeysAreKeystones}
+use Rattle.om_keystone.specs.VertexTerms.{edge_of, IsVertexOf, IsKeystoneOf}
 use Rattle.std.specs.Prelude.{Some}
 use Rattle.om_graph.proofs.KeysOfSides.{side_of, sides_of}
 use Rattle.om_keystone.proofs.FormsOpened.{counts_diagram}

@@ -18,7 +18,8 @@ use Rattle.om_graph.specs.TreeKeys.{IsReaction}
 use Rattle.om_graph.specs.Vertices.{Reaction, fusion, fused_minus, closed_minus}
 use Rattle.om_graph.proofs.HaveReactions.{well_formed_have_reactions}
 use Rattle.om_keystone.specs.CanonicalGraph.{IsCanonicalOf}
-use Rattle.om_keystone.specs.Laws.{StandsIn, KeyStandsIn, CanonicalIsPartOfPossible}
+use Rattle.om_keystone.specs.Laws.{CanonicalIsPartOfPossible}
+use Rattle.om_keystone.specs.PartOf.{StandsIn, KeyStandsIn}
 use Rattle.om_graph.proofs.Lists.{in_mapped}
 use Rattle.om_keystone.proofs.Numbers.{of_at, at_all}
 use Rattle.om_graph.proofs.SetNodes.{number_of, in_by_number}

@@ -5,5 +5,8 @@ pub mod Pruning
 pub mod Built
 pub mod EdgeRules
 pub mod NodeWaves
+pub mod PartOf
+pub mod VertexTerms
+pub mod NodeNames
 pub mod Laws
 pub mod TermSigns
