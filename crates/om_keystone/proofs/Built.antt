@@ -6,7 +6,7 @@ use Rattle.om_model.specs.Order.{IsOrder}
 use Rattle.om_model.specs.Tree.{Tree}
 use Rattle.om_model.specs.Tree.Tree.{leaf, join}
 use Rattle.om_graph.specs.Fusion.{Fusion, HasKey}
-use Rattle.om_keystone.specs.InDiagrams.{Term, InDiagram}
+use Rattle.om_keystone.specs.InDiagrams.{TermOf, InDiagram}
 use Rattle.om_keystone.proofs.Reaching.{Reached, IsSettled}
 use Rattle.om_keystone.proofs.Reaching.Reached.{from_term}
 use Rattle.om_graph.specs.Graph.{Numbered}
@@ -32,7 +32,7 @@ module _ {K F : Type 0} (p : Fusion K F) (lt : K → K → Bool) (order : IsOrde
   unfolding HasKey
   made_of n k e inner (leaf j) d h = absurd (inner j h.0 h.1 h.2)
   made_of n k e inner (join f v c bs) d h =
-      let term : Term K = record { node = k; vertex = v; choice = c; branches = h.0 } in
+      let term : TermOf K = record { node = k; vertex = v; choice = c; branches = h.0 } in
       let exact = prune_is_exact p ok.has_field rank ok in
       let q = (exact.terms term).0 (record { field = f; branches = bs; in_diagram = d; have = h.1; fuse = h.2 }) in
       let b = at_all ns h.0 (λ j i. reached_in j (from_term term q.0 q.1 i)) in

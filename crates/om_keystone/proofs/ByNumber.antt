@@ -19,7 +19,7 @@ use Rattle.om_model.proofs.Membership.{in_flat_map}
 use Rattle.om_model.proofs.Rising.{numbers_order}
 use Rattle.om_model.specs.Opened.{Opened}
 use Rattle.om_graph.specs.Fusion.{Fusion}
-use Rattle.om_keystone.specs.InDiagrams.{Term, KeyTerm, IsMet, IsKeyMet}
+use Rattle.om_keystone.specs.InDiagrams.{TermOf, KeyTermOf, IsMet, IsKeyMet}
 use Rattle.om_keystone.proofs.Reaching.{Reached, PruneIsExact, IsSettled}
 use Rattle.om_keystone.proofs.Reaching.Reached.{from_key, from_term}
 use Rattle.om_model.proofs.FormSums.{rising_different}
@@ -28,9 +28,9 @@ use Rattle.om_graph.specs.Search.{place}
 use Rattle.om_graph.proofs.Places.{place_gets}
 use Rattle.om_graph.specs.Graph.{Numbered, at_numbers, numbered_lt}
 use Rattle.om_keystone.specs.CanonicalGraph.{IsMetAt, IsKeyMetAt, IsCanonicalGraph}
-use Rattle.om_keystone.proofs.KeyedWaves.{KeyRules, meet, term_value, key_value, AreNodeWaves}
+use Rattle.om_keystone.proofs.KeyedWaves.{KeyRules, meet, keyed_term_value, keyed_key_value, AreKeyedWaves}
 use Rattle.om_keystone.proofs.ModelRules.{KeyView, model_rules, AreSigns, ShowsParts, AreOpenedDiagrams}
-use Rattle.om_keystone.proofs.KeyedAnswer.{IsCanonical, same_by, terms_of, keys_of, graph_values, GraphAnswers}
+use Rattle.om_keystone.proofs.KeyedAnswer.{IsCanonical, same_by, terms_of, keys_of, graph_values, KeyedAnswers}
 use Rattle.om_keystone.proofs.NumberedAnswer.{term_value_at, key_value_at, AreWavesAt, values_at, NumberedAnswers}
 use Rattle.om_keystone.specs.NodeWaves.{keys_at, indices_at, meet_at}
 use Rattle.om_keystone.proofs.Members.{from_flat_map, different_flat_map}
@@ -64,40 +64,40 @@ sum_both {A} {B} {E} o f g to q r (x ∷ xs) h =
 
 module _ {K F : Type 0} (p : Fusion K F) (lt : K → K → Bool) (order : IsOrder lt) (before : F → F → Bool) (flow_order : IsOrder before) (rank : K → ℕ) (ok : IsSettled p rank)
     (ns : List K) (ts ys : List Numbered) (ws : List F) (graph : IsCanonicalGraph p lt before ns ts ys ws) where
-  node_term : Numbered → Option K → List (Term K)
+  node_term : Numbered → Option K → List (TermOf K)
   node_term x None = []
   node_term x (Some k) = record { node = k; vertex = x.vertex; choice = x.choice; branches = keys_at ns x.branches } ∷ []
 
-  term_at : Numbered → List (Term K)
+  term_at : Numbered → List (TermOf K)
   term_at x = node_term x (slice_get ns x.made)
 
-  flow_term : Numbered → Option F → List (KeyTerm K F)
+  flow_term : Numbered → Option F → List (KeyTermOf K F)
   flow_term y None = []
   flow_term y (Some u) = record { flow = u; vertex = y.vertex; choice = y.choice; branches = keys_at ns y.branches } ∷ []
 
-  key_at : Numbered → List (KeyTerm K F)
+  key_at : Numbered → List (KeyTermOf K F)
   key_at y = flow_term y (slice_get ws y.made)
 
-  keyed : (x : Numbered) → IsMetAt p ns x → Term K
+  keyed : (x : Numbered) → IsMetAt p ns x → TermOf K
   keyed x m = record { node = m.node; vertex = x.vertex; choice = x.choice; branches = m.branches }
 
-  keyed_key : (y : Numbered) → IsKeyMetAt p ns ws y → KeyTerm K F
+  keyed_key : (y : Numbered) → IsKeyMetAt p ns ws y → KeyTermOf K F
   keyed_key y m = record { flow = m.flow; vertex = y.vertex; choice = y.choice; branches = m.branches }
 
   term_is : (x : Numbered) (m : IsMetAt p ns x) → term_at x ≡ keyed x m ∷ []
   unfolding term_at node_term keyed
   term_is x m =
-      ap (node_term x) m.is_node ∙ ap (λ (ks : List K). let t : Term K = record { node = m.node; vertex = x.vertex; choice = x.choice; branches = ks } in t ∷ []) (keys_are (at_of ns x.branches m.branches m.are_branches))
+      ap (node_term x) m.is_node ∙ ap (λ (ks : List K). let t : TermOf K = record { node = m.node; vertex = x.vertex; choice = x.choice; branches = ks } in t ∷ []) (keys_are (at_of ns x.branches m.branches m.are_branches))
 
   key_is : (y : Numbered) (m : IsKeyMetAt p ns ws y) → key_at y ≡ keyed_key y m ∷ []
   unfolding key_at flow_term keyed_key
   key_is y m =
-      ap (flow_term y) m.is_flow ∙ ap (λ (ks : List K). let t : KeyTerm K F = record { flow = m.flow; vertex = y.vertex; choice = y.choice; branches = ks } in t ∷ []) (keys_are (at_of ns y.branches m.branches m.are_branches))
+      ap (flow_term y) m.is_flow ∙ ap (λ (ks : List K). let t : KeyTermOf K F = record { flow = m.flow; vertex = y.vertex; choice = y.choice; branches = ks } in t ∷ []) (keys_are (at_of ns y.branches m.branches m.are_branches))
 
-  xs : List (Term K)
+  xs : List (TermOf K)
   xs = flat_map term_at ts
 
-  kys : List (KeyTerm K F)
+  kys : List (KeyTermOf K F)
   kys = flat_map key_at ys
 
   in_one : {A : Type 0} (x y : A) (us : List A) → us ≡ y ∷ [] → In x us → x ≡ y
@@ -134,9 +134,9 @@ module _ {K F : Type 0} (p : Fusion K F) (lt : K → K → Bool) (order : IsOrde
       let m = (graph.terms x).0 i in
       let w = (graph.terms z).0 j in
       let q : keyed x m ≡ keyed z w = sym (in_one y (keyed x m) (term_at x) (term_is x m) a) ∙ in_one y (keyed z w) (term_at z) (term_is z w) b in
-      let node : m.node ≡ w.node = ap (λ (t : Term K). t.node) q in
-      same_numbered x z (number_once lt order ns graph.nodes_rise x.made z.made w.node (m.is_node ∙ ap Some node) w.is_node) (ap (λ (t : Term K). t.vertex) q) (ap (λ (t : Term K). t.choice) q)
-      (same_branches x z m.branches w.branches m.are_branches w.are_branches (ap (λ (t : Term K). t.branches) q)))
+      let node : m.node ≡ w.node = ap (λ (t : TermOf K). t.node) q in
+      same_numbered x z (number_once lt order ns graph.nodes_rise x.made z.made w.node (m.is_node ∙ ap Some node) w.is_node) (ap (λ (t : TermOf K). t.vertex) q) (ap (λ (t : TermOf K). t.choice) q)
+      (same_branches x z m.branches w.branches m.are_branches w.are_branches (ap (λ (t : TermOf K). t.branches) q)))
 
   keys_differ : Different kys
   unfolding kys keyed_key
@@ -146,14 +146,14 @@ module _ {K F : Type 0} (p : Fusion K F) (lt : K → K → Bool) (order : IsOrde
       let m = (graph.keys x).0 i in
       let w = (graph.keys z).0 j in
       let q : keyed_key x m ≡ keyed_key z w = sym (in_one y (keyed_key x m) (key_at x) (key_is x m) a) ∙ in_one y (keyed_key z w) (key_at z) (key_is z w) b in
-      let flow : m.flow ≡ w.flow = ap (λ (t : KeyTerm K F). t.flow) q in
-      same_numbered x z (number_once before flow_order ws graph.flows_rise x.made z.made w.flow (m.is_flow ∙ ap Some flow) w.is_flow) (ap (λ (t : KeyTerm K F). t.vertex) q) (ap (λ (t : KeyTerm K F). t.choice) q)
-      (same_branches x z m.branches w.branches m.are_branches w.are_branches (ap (λ (t : KeyTerm K F). t.branches) q)))
+      let flow : m.flow ≡ w.flow = ap (λ (t : KeyTermOf K F). t.flow) q in
+      same_numbered x z (number_once before flow_order ws graph.flows_rise x.made z.made w.flow (m.is_flow ∙ ap Some flow) w.is_flow) (ap (λ (t : KeyTermOf K F). t.vertex) q) (ap (λ (t : KeyTermOf K F). t.choice) q)
+      (same_branches x z m.branches w.branches m.are_branches w.are_branches (ap (λ (t : KeyTermOf K F). t.branches) q)))
 
   node_in : (k : K) → Reached p k → In k ns
   node_in k r = (graph.nodes k).1 ((exact.nodes k).1 r)
 
-  term_member : (t : Term K) → In t xs ↔ IsMet p t
+  term_member : (t : TermOf K) → In t xs ↔ IsMet p t
   unfolding xs keyed
   term_member t = (
     (λ i.
@@ -169,7 +169,7 @@ module _ {K F : Type 0} (p : Fusion K F) (lt : K → K → Bool) (order : IsOrde
         in_flat_map term_at x t ts ((graph.terms x).1 m) (subst (In t) (sym (term_is x m)) (inl refl))),
   )
 
-  key_member : (t : KeyTerm K F) → In t kys ↔ IsKeyMet p t
+  key_member : (t : KeyTermOf K F) → In t kys ↔ IsKeyMet p t
   unfolding kys keyed_key
   key_member t = (
     (λ i.
@@ -214,14 +214,14 @@ module _ {K F : Type 0} (p : Fusion K F) (lt : K → K → Bool) (order : IsOrde
         (λ i. ap₂ o.times (node_is n y i e) (meet_same a (λ js. entry (i ∷ js))))
         ∙ ap (λ u. sum_over o (indices_at rules.indices u) (λ i. o.times (wave n i) (meet_at o rules.indices ns wave is (λ js. entry (i ∷ js))))) (sym e)
 
-    term_same : (x : Numbered) (m : IsMetAt p ns x) (j : ℕ) → term_value o rules p node (keyed x m) j ≡ term_value_at o rules ns wave m.node x j
+    term_same : (x : Numbered) (m : IsMetAt p ns x) (j : ℕ) → keyed_term_value o rules p node (keyed x m) j ≡ term_value_at o rules ns wave m.node x j
     unfolding keyed
     term_same x m j =
         let a = at_of ns x.branches m.branches m.are_branches in
         ap (signed o (rules.minus x.vertex m.node m.branches)) (meet_same a (rules.fused x.vertex x.choice m.node m.branches j))
         ∙ ap (λ ks. signed o (rules.minus x.vertex m.node ks) (meet_at o rules.indices ns wave x.branches (rules.fused x.vertex x.choice m.node ks j))) (sym (keys_are a))
 
-    key_same : (y : Numbered) (m : IsKeyMetAt p ns ws y) → key_value o rules p node (keyed_key y m) ≡ key_value_at o rules ns wave y
+    key_same : (y : Numbered) (m : IsKeyMetAt p ns ws y) → keyed_key_value o rules p node (keyed_key y m) ≡ key_value_at o rules ns wave y
     unfolding keyed_key
     key_same y m =
         let a = at_of ns y.branches m.branches m.are_branches in
@@ -241,15 +241,15 @@ module _ {K F : Type 0} (p : Fusion K F) (lt : K → K → Bool) (order : IsOrde
             let q : m ≡ n = eqb-true m n v in
             sym u ∙ is_same_by le t x y (same_Some x y (sym e ∙ ap (slice_get xs) q ∙ g))
 
-    waves_same : AreWavesAt o rules ns p ts wave → AreNodeWaves o rules p (λ k. In k ns) (terms_of lt xs) node
+    waves_same : AreWavesAt o rules ns p ts wave → AreKeyedWaves o rules p (λ k. In k ns) (terms_of lt xs) node
     unfolding node xs keyed
     waves_same w = record {
       at_leg = λ j i low high h. w.at_leg (place lt ns (p.leg j)) j i (place_gets lt order (p.leg j) ns h) low high;
       at_inner = λ k h inner i.
           let e = place_gets lt order k ns h in
           w.at_inner (place lt ns k) k e inner i
-          ∙ sum_over-ext o (rules.indices k) _ (λ j. o.times (rules.propagator k i j) (sum_over o (terms_of lt xs k) (λ x. term_value o rules p node x j))) (λ j.
-          ap (o.times (rules.propagator k i j)) (sym (sum_both o (λ x. term_value o rules p node x j) (λ x. term_value_at o rules ns wave k x j) term_at (λ (x : Term K). same_by lt x.node k) (λ (x : Numbered). eqb x.made (place lt ns k)) ts
+          ∙ sum_over-ext o (rules.indices k) _ (λ j. o.times (rules.propagator k i j) (sum_over o (terms_of lt xs k) (λ x. keyed_term_value o rules p node x j))) (λ j.
+          ap (o.times (rules.propagator k i j)) (sym (sum_both o (λ x. keyed_term_value o rules p node x j) (λ x. term_value_at o rules ns wave k x j) term_at (λ (x : TermOf K). same_by lt x.node k) (λ (x : Numbered). eqb x.made (place lt ns k)) ts
           (λ x a.
           let m = (graph.terms x).0 a in (
             keyed x m,
@@ -260,14 +260,14 @@ module _ {K F : Type 0} (p : Fusion K F) (lt : K → K → Bool) (order : IsOrde
     }
 
     -- what the keystone terms of a flow give
-    flow_same : (n : ℕ) (u : F) → slice_get ws n ≡ Some u → sum_over o (keys_of before kys u) (key_value o rules p node) ≡ sum_over o (filter (λ (y : Numbered). eqb y.made n) ys) (key_value_at o rules ns wave)
+    flow_same : (n : ℕ) (u : F) → slice_get ws n ≡ Some u → sum_over o (keys_of before kys u) (keyed_key_value o rules p node) ≡ sum_over o (filter (λ (y : Numbered). eqb y.made n) ys) (key_value_at o rules ns wave)
     unfolding kys keyed_key
     flow_same n u e =
-        sum_both o (key_value o rules p node) (key_value_at o rules ns wave) key_at (λ (y : KeyTerm K F). same_by before y.flow u) (λ (y : Numbered). eqb y.made n) ys
+        sum_both o (keyed_key_value o rules p node) (key_value_at o rules ns wave) key_at (λ (y : KeyTermOf K F). same_by before y.flow u) (λ (y : Numbered). eqb y.made n) ys
         (λ y a. let m = (graph.keys y).0 a in (keyed_key y m, key_is y m, same_test before ws flow_order graph.flows_rise y.made n m.flow u m.is_flow e, λ c. key_same y m))
 
     values_same : (ends : F → List ℕ) (n : ℕ) (us : List F) → ((j : ℕ) (u : F) → slice_get us j ≡ Some u → slice_get ws (n + j) ≡ Some u)
-        → map (λ u. (ends u, sum_over o (keys_of before kys u) (key_value o rules p node))) us ≡ values_at o rules ns wave ends ys n us
+        → map (λ u. (ends u, sum_over o (keys_of before kys u) (keyed_key_value o rules p node))) us ≡ values_at o rules ns wave ends ys n us
     unfolding values_at
     values_same ends n [] h = refl
     values_same ends n (u ∷ us) h =
@@ -292,7 +292,7 @@ module _ {K F : Type 0} (p : Fusion K F) (lt : K → K → Bool) (order : IsOrde
     values_are : values_at o (model_rules o s r e view) ns wave ends ys 0 ws ≡ graph_values o s r e p view ends (keys_of before kys) ws (node o (model_rules o s r e view) wave)
     values_are = sym (values_same o (model_rules o s r e view) wave ends 0 ws (from_none o (model_rules o s r e view) wave))
 
-    keyed_answers : (a : Answer E) → GraphAnswers o s r e p view ends ns (keys_of before kys) ws (node o (model_rules o s r e view) wave) a ↔ IsAnswer o s r w e a
+    keyed_answers : (a : Answer E) → KeyedAnswers o s r e p view ends ns (keys_of before kys) ws (node o (model_rules o s r e view) wave) a ↔ IsAnswer o s r w e a
     keyed_answers a =
         is_answer p lt order before flow_order rank ok ns graph.nodes (terms_of lt xs) (are_terms p lt order before flow_order rank ok ns xs kys ws is_canonical) (keys_of before kys) (are_keys p lt order before flow_order rank ok ns xs kys ws is_canonical) ws graph.flows_rise graph.flows o l
         s r w e view ends by_ends shows odd signs hung ds once opens (node o (model_rules o s r e view) wave) (waves_same o (model_rules o s r e view) wave waves) are a

@@ -32,8 +32,7 @@ use Rattle.om_keystone.specs.Built.{terms_at, keys_at_flow}
 use Rattle.om_keystone.specs.CanonicalGraph.{IsCanonicalOf}
 use Rattle.om_keystone.specs.NodeWaves.{keys_at, indices_at, meet_at, node_indices, term_value, key_value, node_wave, AreNodeWaves, flow_values, HasPoleNode, GraphAnswers}
 use Rattle.om_keystone.specs.Laws.{CanonicalGraphGivesAnswer}
-use Rattle.om_keystone.proofs.KeyedAnswer.{IsInner}
-use Rattle.om_keystone.proofs.KeyedAnswer as keyed
+use Rattle.om_keystone.proofs.KeyedAnswer.{IsInner, HasKeyedPole}
 use Rattle.om_keystone.proofs.KeyedWaves.{KeyRules}
 use Rattle.om_keystone.proofs.ModelRules.{model_rules}
 use Rattle.om_keystone.proofs.Nodes.{leg_or_inner, leg_is_leg, inner_is_inner, least_leg}
@@ -135,10 +134,10 @@ module _ {E : Type 0} (o : Ops E) (r : Reaction) (kinds : Kinds) (is : IsReactio
         (sum_changed o unsigned_key (λ (y : Numbered). y.made == m) (key_value o s f e g wave) (key_value_at o rules g.nodes (extended wave)) g.keys (λ y i t. key_same y i))
         (values_are (suc m) us)
 
-    to_keyed : (name : EdgeName) → HasPoleNode o s f e g name → keyed.HasPoleNode o s f e (fusion r) (key_view r) flow_ends g.nodes name
+    to_keyed : (name : EdgeName) → HasPoleNode o s f e g name → HasKeyedPole o s f e (fusion r) (key_view r) flow_ends g.nodes name
     to_keyed name h = record { node = h.node; is_node = h.is_node; is_inner = leg_or_inner r kinds is h.node h.inner; is_named = h.is_named; is_pole = h.is_pole }
 
-    from_keyed : (name : EdgeName) → keyed.HasPoleNode o s f e (fusion r) (key_view r) flow_ends g.nodes name → HasPoleNode o s f e g name
+    from_keyed : (name : EdgeName) → HasKeyedPole o s f e (fusion r) (key_view r) flow_ends g.nodes name → HasPoleNode o s f e g name
     from_keyed name h = record { node = h.node; is_node = h.is_node; inner = inner_is_inner r kinds is h.node ((canonical.graph.nodes h.node).0 h.is_node) h.is_inner; is_named = h.is_named; is_pole = h.is_pole }
 
     same_answers : (a : Answer E) → GraphAnswers o s f e g wave a ↔ NumberedAnswers o s f e (fusion r) (key_view r) flow_ends g.nodes (map unsigned_key g.keys) g.flows (extended wave) a

@@ -21,14 +21,14 @@ use Rattle.om_model.proofs.Membership.{in_map, in_filter}
 use Rattle.om_model.proofs.Rising.{rising_unique, rising_of_rising, in_rising_of, numbers_order}
 use Rattle.om_model.specs.Opened.{Opened}
 use Rattle.om_graph.specs.Fusion.{Fusion, HasKey}
-use Rattle.om_keystone.specs.InDiagrams.{Term, KeyTerm, IsOpened, IsOutward, IsFlowMet}
+use Rattle.om_keystone.specs.InDiagrams.{TermOf, KeyTermOf, IsOpened, IsOutward, IsFlowMet}
 use Rattle.om_keystone.proofs.Reaching.{Reached, IsSettled}
 use Rattle.om_keystone.proofs.Reaching.Reached.{from_key, from_term}
-use Rattle.om_keystone.proofs.KeyedWaves.{key_value, AreOpenedValues, AreTermsOf, AreKeysOf}
+use Rattle.om_keystone.proofs.KeyedWaves.{keyed_key_value, AreOpenedValues, AreTermsOf, AreKeysOf}
 use Rattle.om_keystone.proofs.ModelRules.{KeyView, model_rules, AreSigns, ShowsParts, IsJoin, HasEdge, AreOpenedDiagrams}
 use Rattle.om_keystone.specs.EdgeRules.{name_of}
 use Rattle.om_keystone.proofs.ModelRules.IsJoin.{is_join}
-use Rattle.om_keystone.proofs.KeyedAnswer.{IsCanonical, same_by, terms_of, keys_of, IsInner, AreWaves, HasPoleNode, graph_values, GraphAnswers}
+use Rattle.om_keystone.proofs.KeyedAnswer.{IsCanonical, same_by, terms_of, keys_of, IsInner, AreWaves, HasKeyedPole, graph_values, KeyedAnswers}
 use Rattle.om_keystone.proofs.Members.{map_map, different_map}
 use Rattle.om_graph.proofs.Lists.{in_mapped}
 use Rattle.om_keystone.proofs.Standing.{standing, stood}
@@ -73,7 +73,7 @@ value_signed o l s r e true (join f v c bs) = refl
 value_signed o l s r e false (join f v c bs) = refl
 
 module _ {K F : Type 0} (p : Fusion K F) (lt : K → K → Bool) (order : IsOrder lt) (before : F → F → Bool) (flow_order : IsOrder before) (rank : K → ℕ) (ok : IsSettled p rank)
-    (ns : List K) (xs : List (Term K)) (ys : List (KeyTerm K F)) (ws : List F) (canonical : IsCanonical p lt before ns xs ys ws) where
+    (ns : List K) (xs : List (TermOf K)) (ys : List (KeyTermOf K F)) (ws : List F) (canonical : IsCanonical p lt before ns xs ys ws) where
   node_reached : (k : K) → In k ns → Reached p k
   node_reached k i = ((prune_is_exact p ok.has_field rank ok).nodes k).0 ((canonical.nodes k).0 i)
 
@@ -82,9 +82,9 @@ module _ {K F : Type 0} (p : Fusion K F) (lt : K → K → Bool) (order : IsOrde
 
   pub are_terms : AreTermsOf p (λ k. In k ns) (terms_of lt xs)
   are_terms = record {
-    once = λ k. different_filter (λ (x : Term K). same_by lt x.node k) xs canonical.terms_once;
+    once = λ k. different_filter (λ (x : TermOf K). same_by lt x.node k) xs canonical.terms_once;
     members = λ k i x.
-        let f = in_filter (λ (x : Term K). same_by lt x.node k) x xs in (
+        let f = in_filter (λ (x : TermOf K). same_by lt x.node k) x xs in (
           (λ m. ((((prune_is_exact p ok.has_field rank ok).terms x).0 ((canonical.terms x).0 (f.0 m).0)).0, same_by_is lt order x.node k (f.0 m).1)),
           (λ q. f.1 ((canonical.terms x).1 (((prune_is_exact p ok.has_field rank ok).terms x).1 (q.0, subst (Reached p) (sym q.1) (node_reached k i))), is_same_by lt order x.node k q.1)),
         );
@@ -93,19 +93,19 @@ module _ {K F : Type 0} (p : Fusion K F) (lt : K → K → Bool) (order : IsOrde
 
   pub are_keys : (u : F) → AreKeysOf p (λ k. In k ns) u (keys_of before ys u)
   are_keys u = record {
-    once = different_filter (λ (y : KeyTerm K F). same_by before y.flow u) ys canonical.keys_once;
+    once = different_filter (λ (y : KeyTermOf K F). same_by before y.flow u) ys canonical.keys_once;
     members = λ y.
-        let f = in_filter (λ (y : KeyTerm K F). same_by before y.flow u) y ys in (
+        let f = in_filter (λ (y : KeyTermOf K F). same_by before y.flow u) y ys in (
           (λ m. (((prune_is_exact p ok.has_field rank ok).keys y).0 ((canonical.keys y).0 (f.0 m).0), same_by_is before flow_order y.flow u (f.0 m).1)),
           (λ q. f.1 ((canonical.keys y).1 (((prune_is_exact p ok.has_field rank ok).keys y).1 q.0), is_same_by before flow_order y.flow u q.1)),
         );
-    branches = λ y b m i. reached_node b (from_key y (((prune_is_exact p ok.has_field rank ok).keys y).0 ((canonical.keys y).0 ((in_filter (λ (y : KeyTerm K F). same_by before y.flow u) y ys).0 m).0)) i);
+    branches = λ y b m i. reached_node b (from_key y (((prune_is_exact p ok.has_field rank ok).keys y).0 ((canonical.keys y).0 ((in_filter (λ (y : KeyTermOf K F). same_by before y.flow u) y ys).0 m).0)) i);
   }
 
 -- the nodes, the terms of each node, the keystone terms of each flow, and the flows
 module _ {K F : Type 0} (p : Fusion K F) (lt : K → K → Bool) (order : IsOrder lt) (before : F → F → Bool) (flow_order : IsOrder before) (rank : K → ℕ) (ok : IsSettled p rank)
-    (ns : List K) (nodes : (k : K) → In k ns ↔ IsOutward p k) (terms : K → List (Term K)) (are_terms : AreTermsOf p (λ k. In k ns) terms)
-    (keys : F → List (KeyTerm K F)) (are_keys : (u : F) → AreKeysOf p (λ k. In k ns) u (keys u)) (ws : List F) (flows_rise : Rising before ws) (flows_met : (u : F) → In u ws ↔ IsFlowMet p u) where
+    (ns : List K) (nodes : (k : K) → In k ns ↔ IsOutward p k) (terms : K → List (TermOf K)) (are_terms : AreTermsOf p (λ k. In k ns) terms)
+    (keys : F → List (KeyTermOf K F)) (are_keys : (u : F) → AreKeysOf p (λ k. In k ns) u (keys u)) (ws : List F) (flows_rise : Rising before ws) (flows_met : (u : F) → In u ws ↔ IsFlowMet p u) where
   reached_in : (k : K) → Reached p k → In k ns
   reached_in k h = (nodes k).1 (((prune_is_exact p ok.has_field rank ok).nodes k).1 h)
 
@@ -151,7 +151,7 @@ module _ {K F : Type 0} (p : Fusion K F) (lt : K → K → Bool) (order : IsOrde
         (k.0, subst (IsOpened p k.0) q k.2, k.3)
 
     -- a flow's keystone terms give the sum of its diagrams
-    flow_value : Balances o e s.size → (u : F) → sum_over o (keys u) (key_value o (model_rules o s r e view) p node) ≡ value_of_flow o s r w e ts (ends u)
+    flow_value : Balances o e s.size → (u : F) → sum_over o (keys u) (keyed_key_value o (model_rules o s r e view) p node) ≡ value_of_flow o s r w e ts (ends u)
     unfolding with_flow diagram_value
     flow_value balanced u =
         let most = total rank ns in
@@ -182,7 +182,7 @@ module _ {K F : Type 0} (p : Fusion K F) (lt : K → K → Bool) (order : IsOrde
 
     pub values_are : Balances o e s.size → graph_values o s r e p view ends keys ws node ≡ values_of o s r w e ts
     values_are balanced =
-        map_same (λ u. (ends u, sum_over o (keys u) (key_value o (model_rules o s r e view) p node))) (λ u. (ends u, value_of_flow o s r w e ts (ends u))) (λ u. ap (λ x. (ends u, x)) (flow_value balanced u)) ws
+        map_same (λ u. (ends u, sum_over o (keys u) (keyed_key_value o (model_rules o s r e view) p node))) (λ u. (ends u, value_of_flow o s r w e ts (ends u))) (λ u. ap (λ x. (ends u, x)) (flow_value balanced u)) ws
         ∙ sym (map_map (λ flow. (flow, value_of_flow o s r w e ts flow)) ends ws)
         ∙ ap (map (λ flow. (flow, value_of_flow o s r w e ts flow))) flows_are
 
@@ -192,7 +192,7 @@ module _ {K F : Type 0} (p : Fusion K F) (lt : K → K → Bool) (order : IsOrde
     inner_join (join f v c bs) k inner has = is_join
 
     -- the inner edges of the diagrams are the inner nodes
-    from_node : (name : EdgeName) → HasPoleNode o s r e p view ends ns name → HasPole o s r w e ts name
+    from_node : (name : EdgeName) → HasKeyedPole o s r e p view ends ns name → HasPole o s r w e ts name
     from_node name h =
         let d = (nodes h.node).0 h.is_node in
         let t = d.0 in
@@ -208,7 +208,7 @@ module _ {K F : Type 0} (p : Fusion K F) (lt : K → K → Bool) (order : IsOrde
         let b : rank k ≡ 1 = ap rank q ∙ ok.leg_rank j low high in
         omega arith
 
-    to_node : (name : EdgeName) → HasPole o s r w e ts name → HasPoleNode o s r e p view ends ns name
+    to_node : (name : EdgeName) → HasPole o s r w e ts name → HasKeyedPole o s r e p view ends ns name
     to_node name h =
         let k = opens.has_keystone h.diagram h.is_diagram in
         let edge : HasEdge s h.diagram name = (h.edge, h.is_edge, h.is_named) in
@@ -223,7 +223,7 @@ module _ {K F : Type 0} (p : Fusion K F) (lt : K → K → Bool) (order : IsOrde
         }
 
     -- the answer of the graph is the answer of the diagrams
-    graph_answers : (a : Answer E) → GraphAnswers o s r e p view ends ns keys ws node a ↔ Answers o s r w e ts a
+    graph_answers : (a : Answer E) → KeyedAnswers o s r e p view ends ns keys ws node a ↔ Answers o s r w e ts a
     graph_answers unbalanced = ((λ h. h), (λ h. h))
     graph_answers (pole name) = (
       (λ h. (h.0, from_node name h.1, λ other g. h.2 other (to_node other g))),
@@ -235,7 +235,7 @@ module _ {K F : Type 0} (p : Fusion K F) (lt : K → K → Bool) (order : IsOrde
     )
 
     -- given that they are all diagrams of the process
-    pub is_answer : AreDiagrams s ts → (a : Answer E) → GraphAnswers o s r e p view ends ns keys ws node a ↔ IsAnswer o s r w e a
+    pub is_answer : AreDiagrams s ts → (a : Answer E) → KeyedAnswers o s r e p view ends ns keys ws node a ↔ IsAnswer o s r w e a
     is_answer are a = (
       (λ h. (ts, are, (graph_answers a).0 h)),
       (λ h. (graph_answers a).1 (let P : List Tree → Type 0 = λ us. Answers o s r w e us a in subst P (only_one s h.0 ts h.1 are) h.2)),

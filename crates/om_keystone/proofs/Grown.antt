@@ -11,8 +11,8 @@ use Rattle.om_model.proofs.Membership.{in_left, in_right, in_either, in_map, in_
 use Rattle.om_model.proofs.Counting.{in_upto}
 use Rattle.om_graph.specs.Fusion.{Fusion, HasKey, HaveKeys}
 use Rattle.om_graph.proofs.SetNodes.{nodes_of}
-use Rattle.om_keystone.specs.InDiagrams.{Term}
-use Rattle.om_keystone.proofs.Reaching.{IsTerm, IsSettled}
+use Rattle.om_keystone.specs.InDiagrams.{TermOf}
+use Rattle.om_keystone.proofs.Reaching.{IsPossibleTerm, IsSettled}
 use Rattle.om_keystone.proofs.KeyedWaves.{AreTermsOf}
 use Rattle.om_keystone.proofs.Members.{different_filter, from_flat_map, different_append, different_map, different_flat_map}
 use Rattle.om_graph.proofs.Lists.{in_mapped}
@@ -36,7 +36,7 @@ unfoldable pub choose : {K : Type 0} → (K → List Tree) → List K → List B
 choose g [] = none ∷ []
 choose g (k ∷ ks) = flat_map (λ t. map (and t) (choose g ks)) (g k)
 
-unfoldable pub joins : {K : Type 0} → (K → ℕ) → (K → List Tree) → Term K → List Tree
+unfoldable pub joins : {K : Type 0} → (K → ℕ) → (K → List Tree) → TermOf K → List Tree
 joins field g x = map (join (field x.node) x.vertex x.choice) (choose g x.branches)
 
 head : Branches → Tree
@@ -107,7 +107,7 @@ same_by_is lt o x y h = o.total x y (by (lt x y) (lt y x) h).0 (by (lt x y) (lt 
 pub is_same_by : {A : Type 0} (lt : A → A → Bool) → IsOrder lt → (x y : A) → x ≡ y → same_by lt x y ≡ true
 is_same_by lt o x y e = ap₂ (λ a b. not a && not b) (ap (lt x) (sym e) ∙ o.irreflexive x) (ap (lt y) e ∙ o.irreflexive y)
 
-module _ {K F : Type 0} (p : Fusion K F) (lt : K → K → Bool) (terms : K → List (Term K)) where
+module _ {K F : Type 0} (p : Fusion K F) (lt : K → K → Bool) (terms : K → List (TermOf K)) where
   -- the legs that have a key
   pub legs_with : K → List ℕ
   legs_with k = filter (λ j. same_by lt k (p.leg j)) (upto p.size)
@@ -117,7 +117,7 @@ module _ {K F : Type 0} (p : Fusion K F) (lt : K → K → Bool) (terms : K → 
   grown zero k = []
   grown (suc n) k = map leaf (legs_with k) ++ flat_map (joins p.field (grown n)) (terms k)
 
-module _ {K F : Type 0} (p : Fusion K F) (lt : K → K → Bool) (order : IsOrder lt) (rank : K → ℕ) (ok : IsSettled p rank) (kept : K → Type 0) (terms : K → List (Term K)) (are : AreTermsOf p kept terms) where
+module _ {K F : Type 0} (p : Fusion K F) (lt : K → K → Bool) (order : IsOrder lt) (rank : K → ℕ) (ok : IsSettled p rank) (kept : K → Type 0) (terms : K → List (TermOf K)) (are : AreTermsOf p kept terms) where
   pub leg_with : (k : K) (j : ℕ) → In j (legs_with p lt terms k) ↔ ((1 ≤ j) × (j ≤ p.size) × (k ≡ p.leg j))
   unfolding legs_with
   leg_with k j =
@@ -129,7 +129,7 @@ module _ {K F : Type 0} (p : Fusion K F) (lt : K → K → Bool) (order : IsOrde
   legs_differ k = different_filter (λ j. same_by lt k (p.leg j)) (upto p.size) (upto_differ p.size)
 
   -- the branches of a term have a lesser rank
-  pub lesser : (n : ℕ) (x : Term K) (b : K) → IsTerm p x → rank x.node < suc n → In b x.branches → rank b < n
+  pub lesser : (n : ℕ) (x : TermOf K) (b : K) → IsPossibleTerm p x → rank x.node < suc n → In b x.branches → rank b < n
   lesser n x b t h i = let r = ok.rises (p.field x.node) x.vertex x.choice x.branches x.node b t.1 i in omega arith
 
   pub from_grown : (n : ℕ) (k : K) (t : Tree) → kept k → rank k < n → In t (grown p lt terms n k) → HasKey p t k
@@ -156,14 +156,14 @@ module _ {K F : Type 0} (p : Fusion K F) (lt : K → K → Bool) (order : IsOrde
   in_grown (suc n) k (leaf j) a h g = in_left (leaf j) (map leaf (legs_with p lt terms k)) (flat_map (joins p.field (grown p lt terms n)) (terms k)) (in_map leaf j (legs_with p lt terms k) ((leg_with k j).1 (g.0, g.1, g.2)))
   in_grown (suc n) k (join f v c bs) a h g =
       let t = join f v c bs in
-      let x : Term K = record { node = k; vertex = v; choice = c; branches = g.0 } in
+      let x : TermOf K = record { node = k; vertex = v; choice = c; branches = g.0 } in
       let e : p.field k ≡ f = ok.has_field f v c g.0 k g.2 in
-      let q : IsTerm p x = (nodes_of p bs g.0 g.1, subst (λ i. p.fuses i v c g.0 k) (sym e) g.2) in
+      let q : IsPossibleTerm p x = (nodes_of p bs g.0 g.1, subst (λ i. p.fuses i v c g.0 k) (sym e) g.2) in
       let there = in_map (join (p.field k) v c) bs (choose (grown p lt terms n) g.0) (in_choose p (grown p lt terms n) bs g.0 g.1 (λ b u i w. in_grown n b u (are.branches x b q a i) (lesser n x b q h i) w)) in
       in_right t (map leaf (legs_with p lt terms k)) (flat_map (joins p.field (grown p lt terms n)) (terms k))
       (in_flat_map (joins p.field (grown p lt terms n)) x t (terms k) ((are.members k a x).1 (q, refl)) (subst (λ i. In (join i v c bs) (joins p.field (grown p lt terms n) x)) e there))
 
-  same_term : (x z : Term K) → x.node ≡ z.node → x.vertex ≡ z.vertex → x.choice ≡ z.choice → x.branches ≡ z.branches → x ≡ z
+  same_term : (x z : TermOf K) → x.node ≡ z.node → x.vertex ≡ z.vertex → x.choice ≡ z.choice → x.branches ≡ z.branches → x ≡ z
   same_term x z a b c d =
       ap (λ (n : K). record { node = n; vertex = x.vertex; choice = x.choice; branches = x.branches }) a
       ∙ ap₂ (λ (v w : ℕ). record { node = z.node; vertex = v; choice = w; branches = x.branches }) b c
@@ -188,16 +188,16 @@ module _ {K F : Type 0} (p : Fusion K F) (lt : K → K → Bool) (order : IsOrde
       let m = in_mapped (join (p.field x.node) x.vertex x.choice) t (choose (grown p lt terms n) x.branches) r.2 in
       true≢false (ap is_leaf (sym b.2 ∙ m.2)))
     where
-      up : (x : Term K) → IsTerm p x × (x.node ≡ k) → rank x.node < suc n
+      up : (x : TermOf K) → IsPossibleTerm p x × (x.node ≡ k) → rank x.node < suc n
       up x q = subst (λ j. rank j < suc n) (sym q.1) h
 
-      here : (x : Term K) (b : K) → IsTerm p x × (x.node ≡ k) → In b x.branches → kept b
+      here : (x : TermOf K) (b : K) → IsPossibleTerm p x × (x.node ≡ k) → In b x.branches → kept b
       here x b q j = are.branches x b q.0 (subst kept (sym q.1) a) j
 
-      have : (x : Term K) (bs : Branches) → IsTerm p x × (x.node ≡ k) → In bs (choose (grown p lt terms n) x.branches) → HaveKeys p bs x.branches
+      have : (x : TermOf K) (bs : Branches) → IsPossibleTerm p x × (x.node ≡ k) → In bs (choose (grown p lt terms n) x.branches) → HaveKeys p bs x.branches
       have x bs q i = chosen p (grown p lt terms n) bs x.branches i (λ b u j w. from_grown n b u (here x b q j) (lesser n x b q.0 (up x q) j) w)
 
-      one : (x z : Term K) (t : Tree) → In x (terms k) → In z (terms k) → In t (joins p.field (grown p lt terms n) x) → In t (joins p.field (grown p lt terms n) z) → x ≡ z
+      one : (x z : TermOf K) (t : Tree) → In x (terms k) → In z (terms k) → In t (joins p.field (grown p lt terms n) x) → In t (joins p.field (grown p lt terms n) z) → x ≡ z
       one x z t a₁ a₂ i j =
           let q = (are.members k a x).0 a₁ in
           let r = (are.members k a z).0 a₂ in

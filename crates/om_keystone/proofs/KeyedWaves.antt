@@ -8,8 +8,8 @@ use Rattle.om_model.specs.Tree.Tree.{leaf, join}
 use Rattle.om_model.specs.Tree.Branches.{none, and}
 use Rattle.om_model.specs.Opened.{Opened}
 use Rattle.om_graph.specs.Fusion.{Fusion, HaveKeys}
-use Rattle.om_keystone.specs.InDiagrams.{Term, KeyTerm, IsOpened}
-use Rattle.om_keystone.proofs.Reaching.{IsTerm, IsKeyTerm}
+use Rattle.om_keystone.specs.InDiagrams.{TermOf, KeyTermOf, IsOpened}
+use Rattle.om_keystone.proofs.Reaching.{IsPossibleTerm, IsPossibleKeyTerm}
 
 -- The rules by which wave functions are made, by the keys of what meets.
 pub record KeyRules (E K : Type 0) : Type 0 where
@@ -53,31 +53,31 @@ module _ {E K : Type 0} (o : Ops E) (rules : KeyRules E K) where
           value a ≡ signed o (rules.closed_minus a.vertex ks) (meet_trees wave a.parts ks (rules.closed a.vertex a.choice ks))
 
     -- what a term adds to its node, at the lower end of the node's edge
-    abbrev pub term_value : (K → ℕ → E) → Term K → ℕ → E
-    term_value wave x j = signed o (rules.minus x.vertex x.node x.branches) (meet wave x.branches (rules.fused x.vertex x.choice x.node x.branches j))
+    abbrev pub keyed_term_value : (K → ℕ → E) → TermOf K → ℕ → E
+    keyed_term_value wave x j = signed o (rules.minus x.vertex x.node x.branches) (meet wave x.branches (rules.fused x.vertex x.choice x.node x.branches j))
 
     -- what a keystone term adds to its flow
-    abbrev pub key_value : (K → ℕ → E) → KeyTerm K F → E
-    key_value wave y = signed o (rules.closed_minus y.vertex y.branches) (meet wave y.branches (rules.closed y.vertex y.choice y.branches))
+    abbrev pub keyed_key_value : (K → ℕ → E) → KeyTermOf K F → E
+    keyed_key_value wave y = signed o (rules.closed_minus y.vertex y.branches) (meet wave y.branches (rules.closed y.vertex y.choice y.branches))
 
     -- The wave functions of the nodes that are kept: that of a leg is given; that of another node is the sum over its terms,
     -- propagated once.
-    pub record AreNodeWaves (kept : K → Type 0) (terms : K → List (Term K)) (wave : K → ℕ → E) : Type 0 where
+    pub record AreKeyedWaves (kept : K → Type 0) (terms : K → List (TermOf K)) (wave : K → ℕ → E) : Type 0 where
       pub at_leg : (j i : ℕ) → 1 ≤ j → j ≤ p.size → kept (p.leg j) → wave (p.leg j) i ≡ rules.leg j i
       pub at_inner : (k : K) → kept k → ((j : ℕ) → 1 ≤ j → j ≤ p.size → k ≡ p.leg j → ⊥) → (i : ℕ) →
-          wave k i ≡ sum_over o (rules.indices k) (λ j. o.times (rules.propagator k i j) (sum_over o (terms k) (λ x. term_value wave x j)))
+          wave k i ≡ sum_over o (rules.indices k) (λ j. o.times (rules.propagator k i j) (sum_over o (terms k) (λ x. keyed_term_value wave x j)))
 
 -- the terms of each node that is kept, each once, and with a node all of its branches are kept
-pub record AreTermsOf {K F : Type 0} (p : Fusion K F) (kept : K → Type 0) (terms : K → List (Term K)) : Type 0 where
+pub record AreTermsOf {K F : Type 0} (p : Fusion K F) (kept : K → Type 0) (terms : K → List (TermOf K)) : Type 0 where
   pub once : (k : K) → Different (terms k)
-  pub members : (k : K) → kept k → (x : Term K) → In x (terms k) ↔ (IsTerm p x × (x.node ≡ k))
-  pub branches : (x : Term K) (b : K) → IsTerm p x → kept x.node → In b x.branches → kept b
+  pub members : (k : K) → kept k → (x : TermOf K) → In x (terms k) ↔ (IsPossibleTerm p x × (x.node ≡ k))
+  pub branches : (x : TermOf K) (b : K) → IsPossibleTerm p x → kept x.node → In b x.branches → kept b
 
 -- the keystone terms of a flow, each once, of nodes that are kept
-pub record AreKeysOf {K F : Type 0} (p : Fusion K F) (kept : K → Type 0) (w : F) (ys : List (KeyTerm K F)) : Type 0 where
+pub record AreKeysOf {K F : Type 0} (p : Fusion K F) (kept : K → Type 0) (w : F) (ys : List (KeyTermOf K F)) : Type 0 where
   pub once : Different ys
-  pub members : (y : KeyTerm K F) → In y ys ↔ (IsKeyTerm p y × (y.flow ≡ w))
-  pub branches : (y : KeyTerm K F) (b : K) → In y ys → In b y.branches → kept b
+  pub members : (y : KeyTermOf K F) → In y ys ↔ (IsPossibleKeyTerm p y × (y.flow ≡ w))
+  pub branches : (y : KeyTermOf K F) (b : K) → In y ys → In b y.branches → kept b
 
 -- the diagrams with a flow, each opened at its keystone and once
 pub record AreOpenedOf {K F : Type 0} (p : Fusion K F) (w : F) (opened : List Opened) : Type 0 where

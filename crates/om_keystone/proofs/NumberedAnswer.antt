@@ -13,7 +13,7 @@ use Rattle.om_graph.specs.Graph.{Numbered}
 use Rattle.om_keystone.specs.NodeWaves.{keys_at, meet_at}
 use Rattle.om_keystone.proofs.KeyedWaves.{KeyRules}
 use Rattle.om_keystone.proofs.ModelRules.{KeyView, model_rules}
-use Rattle.om_keystone.proofs.KeyedAnswer.{IsInner, HasPoleNode}
+use Rattle.om_keystone.proofs.KeyedAnswer.{IsInner, HasKeyedPole}
 
 module _ {E K : Type 0} (o : Ops E) (rules : KeyRules E K) (ns : List K) where
   -- what a term adds to its node, which has key k, at the lower end of the node's edge
@@ -39,5 +39,5 @@ module _ {E K F : Type 0} (o : Ops E) (s : Scattering) (r : FeynmanRules E) (e :
   -- the answer of the graph
   abbrev pub NumberedAnswers : List K → List Numbered → List F → (ℕ → ℕ → E) → Answer E → Type 0
   NumberedAnswers ns ys ws wave unbalanced = Balances o e s.size → ⊥
-  NumberedAnswers ns ys ws wave (pole name) = Balances o e s.size × HasPoleNode o s r e p view ends ns name × ((other : EdgeName) → HasPoleNode o s r e p view ends ns other → name_lt other name ≡ false)
-  NumberedAnswers ns ys ws wave (values vs) = Balances o e s.size × ((name : EdgeName) → HasPoleNode o s r e p view ends ns name → ⊥) × (vs ≡ values_at o (model_rules o s r e view) ns wave ends ys 0 ws)
+  NumberedAnswers ns ys ws wave (pole name) = Balances o e s.size × HasKeyedPole o s r e p view ends ns name × ((other : EdgeName) → HasKeyedPole o s r e p view ends ns other → name_lt other name ≡ false)
+  NumberedAnswers ns ys ws wave (values vs) = Balances o e s.size × ((name : EdgeName) → HasKeyedPole o s r e p view ends ns name → ⊥) × (vs ≡ values_at o (model_rules o s r e view) ns wave ends ys 0 ws)

@@ -6,8 +6,8 @@ use Rattle.om_model.specs.Tree.Tree.{leaf, join}
 use Rattle.om_model.specs.Tree.Branches.{none, and}
 use Rattle.om_graph.specs.Fusion.{Fusion, HasKey, HaveKeys, IsNode, AllNodes}
 use Rattle.om_graph.proofs.SetNodes.{nodes_of}
-use Rattle.om_keystone.specs.InDiagrams.{Term, KeyTerm, InDiagram, IsOutward, IsMet}
-use Rattle.om_keystone.proofs.Reaching.{IsTerm, Reached, PruneIsExact, IsSettled}
+use Rattle.om_keystone.specs.InDiagrams.{TermOf, KeyTermOf, InDiagram, IsOutward, IsMet}
+use Rattle.om_keystone.proofs.Reaching.{IsPossibleTerm, Reached, PruneIsExact, IsSettled}
 use Rattle.om_keystone.proofs.Reaching.Reached.{from_key, from_term}
 use Rattle.om_keystone.proofs.Standing.{Stands, Within, stands_below, standing, stood}
 
@@ -43,7 +43,7 @@ module _ {K F : Type 0} (p : Fusion K F) where
       let g = grow_with ks k t n.1 i h in
       record { trees = and n.0.0 g.trees; have = (j, ks, n.0.1, g.have, refl); stands = inr (inr g.stands) }
 
-  joined_key : (x : Term K) (bs : Branches) → HaveKeys p bs x.branches → p.fuses (p.field x.node) x.vertex x.choice x.branches x.node → HasKey p (join (p.field x.node) x.vertex x.choice bs) x.node
+  joined_key : (x : TermOf K) (bs : Branches) → HaveKeys p bs x.branches → p.fuses (p.field x.node) x.vertex x.choice x.branches x.node → HasKey p (join (p.field x.node) x.vertex x.choice bs) x.node
   unfolding HasKey
   joined_key x bs h f = (x.branches, h, f)
 
@@ -64,7 +64,7 @@ module _ {K F : Type 0} (p : Fusion K F) where
     pub reached : Reached p key
 
   module _ (has_field : (f v c : ℕ) (ks : List K) (k : K) → p.fuses f v c ks k → p.field k ≡ f) where
-    fused_term : (f v c : ℕ) (ks : List K) (k : K) → AllNodes p ks → p.fuses f v c ks k → IsTerm p (record { node = k; vertex = v; choice = c; branches = ks })
+    fused_term : (f v c : ℕ) (ks : List K) (k : K) → AllNodes p ks → p.fuses f v c ks k → IsPossibleTerm p (record { node = k; vertex = v; choice = c; branches = ks })
     fused_term f v c ks k n h = (n, subst (λ g. p.fuses g v c ks k) (sym (has_field f v c ks k h)) h)
 
     mutual
@@ -85,7 +85,7 @@ module _ {K F : Type 0} (p : Fusion K F) where
     pub seen_here : (t : Tree) → InDiagram p t → Seen t
     seen_here t d =
         let w = d.opened in
-        let y : KeyTerm K F = record { flow = d.flow; vertex = d.diagram.vertex; choice = d.diagram.choice; branches = w.keys } in
+        let y : KeyTermOf K F = record { flow = d.flow; vertex = d.diagram.vertex; choice = d.diagram.choice; branches = w.keys } in
         seen t d.diagram.parts w.keys w.have (λ k j. from_key y (nodes_of p d.diagram.parts w.keys w.have, w.close) j) (stood t d.diagram.parts d.hangs)
 
     module _ (rank : K → ℕ) (ok : IsSettled p rank) where
@@ -103,7 +103,7 @@ module _ {K F : Type 0} (p : Fusion K F) where
       outward_reached : (k : K) → IsOutward p k → Reached p k
       outward_reached k d = let s = seen_here d.0 d.1 in subst (Reached p) (one_key d.0 s.key k s.has_key d.2) s.reached
 
-      met_term : (x : Term K) → IsMet p x → IsTerm p x × Reached p x.node
+      met_term : (x : TermOf K) → IsMet p x → IsPossibleTerm p x × Reached p x.node
       unfolding HasKey
       met_term x m =
           let t = join m.field x.vertex x.choice m.branches in
@@ -115,7 +115,7 @@ module _ {K F : Type 0} (p : Fusion K F) where
       node_is k (from_key y m i) = node_among y.branches k m.0 i
       node_is k (from_term x m r i) = node_among x.branches k m.0 i
 
-      term_met : (x : Term K) → IsTerm p x × Reached p x.node → IsMet p x
+      term_met : (x : TermOf K) → IsPossibleTerm p x × Reached p x.node → IsMet p x
       term_met x m =
           let g = grow x.branches m.0.0 in
           let t = join (p.field x.node) x.vertex x.choice g.trees in

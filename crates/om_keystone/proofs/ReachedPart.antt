@@ -7,9 +7,9 @@ use Rattle.om_model.specs.Order.{IsOrder, BeforeAll, Rising, numbers_lt}
 use Rattle.om_model.proofs.Membership.{in_map, in_filter}
 use Rattle.om_graph.specs.Fusion.{Fusion, IsNode, AllNodes}
 use Rattle.om_graph.proofs.SetNodes.{nodes_of}
-use Rattle.om_keystone.specs.InDiagrams.{Term, KeyTerm, IsOutward, IsFlowMet}
+use Rattle.om_keystone.specs.InDiagrams.{TermOf, KeyTermOf, IsOutward, IsFlowMet}
 use Rattle.om_keystone.proofs.Reaching.{Reached, IsSettled}
-use Rattle.om_keystone.proofs.Reaching as canonical
+use Rattle.om_keystone.proofs.Reaching as reaching
 use Rattle.om_keystone.proofs.Reaching.Reached.{from_key, from_term}
 use Rattle.om_graph.specs.Graph.{at_numbers, Numbered, numbered_lt, IsTerm, IsKeyTerm, IsGraph}
 use Rattle.om_keystone.specs.CanonicalGraph.{IsMetAt, IsKeyMetAt}
@@ -84,10 +84,10 @@ module _ {K F : Type 0} (p : Fusion K F) (lt : K → K → Bool) (order : IsOrde
   at_nodes a k i = let m = at_member k a i in in_by_number ns m.0 k m.1
 
   -- terms by number and by key
-  keyed : (x : Numbered) (t : IsTerm p ns x) → canonical.IsTerm p (record { node = t.node; vertex = x.vertex; choice = x.choice; branches = t.branches })
+  keyed : (x : Numbered) (t : IsTerm p ns x) → reaching.IsPossibleTerm p (record { node = t.node; vertex = x.vertex; choice = x.choice; branches = t.branches })
   keyed x t = (all_nodes t.branches (at_nodes (at_of ns x.branches t.branches t.are_branches)), t.fuse)
 
-  keyed_key : (y : Numbered) (t : IsKeyTerm p ns ws y) → canonical.IsKeyTerm p (record { flow = t.flow; vertex = y.vertex; choice = y.choice; branches = t.branches })
+  keyed_key : (y : Numbered) (t : IsKeyTerm p ns ws y) → reaching.IsPossibleKeyTerm p (record { flow = t.flow; vertex = y.vertex; choice = y.choice; branches = t.branches })
   keyed_key y t = (all_nodes t.branches (at_nodes (at_of ns y.branches t.branches t.are_branches)), t.close)
 
   term_of : (x : Numbered) → In x ts → IsTerm p ns x
@@ -120,14 +120,14 @@ module _ {K F : Type 0} (p : Fusion K F) (lt : K → K → Bool) (order : IsOrde
       let same : up.key ≡ t.node = same_Some up.key t.node (sym up.is_key ∙ t.is_node) in
       record { key = b.0; is_key = b.1; reached = from_term (record { node = t.node; vertex = x.vertex; choice = x.choice; branches = t.branches }) (keyed x t) (subst (Reached p) same up.reached) b.2 }
 
-  has_key_term : (y : KeyTerm K F) → canonical.IsKeyTerm p y → (z : Numbered) × In z ys × At ns z.branches y.branches × (slice_get ws z.made ≡ Some y.flow) × (z.vertex ≡ y.vertex) × (z.choice ≡ y.choice)
+  has_key_term : (y : KeyTermOf K F) → reaching.IsPossibleKeyTerm p y → (z : Numbered) × In z ys × At ns z.branches y.branches × (slice_get ws z.made ≡ Some y.flow) × (z.vertex ≡ y.vertex) × (z.choice ≡ y.choice)
   has_key_term y h =
       let w = number_of y.flow ws ((graph.flows y.flow).1 (y.vertex, y.choice, y.branches, h.0, h.1)) in
       let b = at_all ns y.branches (all_here y.branches h.0) in
       let z : Numbered = record { made = w.0; vertex = y.vertex; choice = y.choice; branches = b.0 } in
       (z, (graph.keys z).1 (record { flow = y.flow; branches = y.branches; is_flow = w.1; are_branches = of_at b.1; close = h.1 }), b.1, w.1, refl, refl)
 
-  has_term : (x : Term K) → canonical.IsTerm p x → (n : ℕ) → slice_get ns n ≡ Some x.node → (z : Numbered) × In z ts × At ns z.branches x.branches × (z.made ≡ n)
+  has_term : (x : TermOf K) → reaching.IsPossibleTerm p x → (n : ℕ) → slice_get ns n ≡ Some x.node → (z : Numbered) × In z ts × At ns z.branches x.branches × (z.made ≡ n)
   has_term x h n e =
       let b = at_all ns x.branches (all_here x.branches h.0) in
       let z : Numbered = record { made = n; vertex = x.vertex; choice = x.choice; branches = b.0 } in
@@ -205,7 +205,7 @@ module _ {K F : Type 0} (p : Fusion K F) (lt : K → K → Bool) (order : IsOrde
       let r = old_at a in
       (o.0 ∷ r.0, at_more o.1 r.1, ap₂ ◌∷◌ o.3 r.2, λ k i. ⊎_elim (λ q. subst (Reached p) (sym q) o.2) (λ j. r.3 k j) i)
 
-  exact : canonical.PruneIsExact p
+  exact : reaching.PruneIsExact p
   exact = prune_is_exact p ok.has_field rank ok
 
   reached_term : (x : Numbered) (t : IsTerm p ns x) → Reached p t.node → (k : K) → In k t.branches → Reached p k

@@ -3,28 +3,28 @@ use Rattle.std.specs.Prelude.{◌≡◌, ℕ, ◌<◌, ◌≤◌, List, map, len
 use Rattle.om_ring.specs.Members.{In}
 use Rattle.om_graph.specs.Fusion.{Fusion, AllNodes}
 use Rattle.om_graph.specs.Graph.{Numbered}
-use Rattle.om_keystone.specs.InDiagrams.{Term, KeyTerm, IsOutward, IsMet, IsKeyMet}
+use Rattle.om_keystone.specs.InDiagrams.{TermOf, KeyTermOf, IsOutward, IsMet, IsKeyMet}
 use Rattle.om_keystone.specs.CanonicalGraph.{IsCanonicalGraph}
 use Rattle.om_keystone.specs.Pruning.{marks_of, marked_of, numbers_from, kept_terms, renumbered_key}
 
 module _ {K F : Type 0} (p : Fusion K F) where
   -- a term and a keystone term of the possible graph
-  abbrev pub IsTerm : Term K → Type 0
-  IsTerm x = AllNodes p x.branches × p.fuses (p.field x.node) x.vertex x.choice x.branches x.node
+  abbrev pub IsPossibleTerm : TermOf K → Type 0
+  IsPossibleTerm x = AllNodes p x.branches × p.fuses (p.field x.node) x.vertex x.choice x.branches x.node
 
-  abbrev pub IsKeyTerm : KeyTerm K F → Type 0
-  IsKeyTerm y = AllNodes p y.branches × p.closes y.vertex y.choice y.branches y.flow
+  abbrev pub IsPossibleKeyTerm : KeyTermOf K F → Type 0
+  IsPossibleKeyTerm y = AllNodes p y.branches × p.closes y.vertex y.choice y.branches y.flow
 
   -- reached from the keystone terms by terms
   pub data Reached : K → Type 0 where
-    from_key : {k : K} (y : KeyTerm K F) → IsKeyTerm y → In k y.branches → Reached k
-    from_term : {k : K} (x : Term K) → IsTerm x → Reached x.node → In k x.branches → Reached k
+    from_key : {k : K} (y : KeyTermOf K F) → IsPossibleKeyTerm y → In k y.branches → Reached k
+    from_term : {k : K} (x : TermOf K) → IsPossibleTerm x → Reached x.node → In k x.branches → Reached k
 
   -- pruning keeps just what is reached
   pub record PruneIsExact : Type 0 where
     pub nodes : (k : K) → IsOutward p k ↔ Reached k
-    pub terms : (x : Term K) → IsMet p x ↔ (IsTerm x × Reached x.node)
-    pub keys : (y : KeyTerm K F) → IsKeyMet p y ↔ IsKeyTerm y
+    pub terms : (x : TermOf K) → IsMet p x ↔ (IsPossibleTerm x × Reached x.node)
+    pub keys : (y : KeyTermOf K F) → IsKeyMet p y ↔ IsPossibleKeyTerm y
 
   -- branches stand before their node
   abbrev pub BranchesFirst : (K → K → Bool) → Type 0

@@ -8,14 +8,14 @@ use Rattle.om_model.specs.Outward.{subtrees_all}
 use Rattle.om_graph.specs.Fusion.{Fusion, HasKey, HaveKeys}
 
 -- nodes that meet at a vertex by a choice and make a node
-pub record Term (K : Type 0) : Type 0 where
+pub record TermOf (K : Type 0) : Type 0 where
   pub node : K
   pub vertex : ℕ
   pub choice : ℕ
   pub branches : List K
 
 -- nodes that meet at a keystone by a choice and make a flow
-pub record KeyTerm (K F : Type 0) : Type 0 where
+pub record KeyTermOf (K F : Type 0) : Type 0 where
   pub flow : F
   pub vertex : ℕ
   pub choice : ℕ
@@ -40,7 +40,7 @@ module _ {K F : Type 0} (p : Fusion K F) where
   IsOutward k = (t : Tree) × InDiagram t × HasKey p t k
 
   -- the branches that meet at a vertex of some diagram other than its keystone
-  pub record IsMet (x : Term K) : Type 0 where
+  pub record IsMet (x : TermOf K) : Type 0 where
     pub field : ℕ
     pub branches : Branches
     pub in_diagram : InDiagram (join field x.vertex x.choice branches)
@@ -48,7 +48,7 @@ module _ {K F : Type 0} (p : Fusion K F) where
     pub fuse : p.fuses field x.vertex x.choice x.branches x.node
 
   -- the branches that meet at the keystone of some diagram
-  pub record IsKeyMet (y : KeyTerm K F) : Type 0 where
+  pub record IsKeyMet (y : KeyTermOf K F) : Type 0 where
     pub branches : Branches
     pub have : HaveKeys p branches y.branches
     pub close : p.closes y.vertex y.choice y.branches y.flow

@@ -1,5 +1,6 @@
 //! Laws of the canonical graph. Each is the contract of a function that does nothing.
-ghost use Rattle.om_keystone.specs.Laws.{CanonicalGraphGivesAnswer, CanonicalIsBuilt, CanonicalIsPartOfPossible, FlowsAreTheirs, KeysAreKeystones, NodesAreEdges, NodesHaveNames, NodesHaveWaves, TermsAreVertices};
+ghost use Rattle.om_keystone.specs.Laws.{CanonicalGraphGivesAnswer, CanonicalIsBuilt, CanonicalIsPartOfPossible, NodesHaveNames, NodesHaveWaves};
+ghost use Rattle.om_keystone.specs.Laws.{FlowsAreTheirs, KeysAreKeystones, NodesAreEdges, TermsAreVertices};
 ghost use Rattle.om_keystone.specs.TermSigns.{SignsOfTermsMultiply};
 
 use om_ring::Ring;
