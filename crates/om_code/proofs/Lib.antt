@@ -1,0 +1,15 @@
+pub mod Carried
+pub mod ContentRuns
+pub mod Counting
+pub mod DenOrder
+pub mod FirstFit
+pub mod FirstRow
+pub mod Groups
+pub mod Instrs
+pub mod OneMeaning
+pub mod PlacedFinds
+pub mod PlacedRuns
+pub mod SpanFacts
+pub mod VerifiedFacts
+pub mod Walk
+pub mod Worked

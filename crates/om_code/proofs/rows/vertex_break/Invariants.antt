@@ -1,0 +1,8 @@
+use Rattle.om_code.specs.declared.code.CodeKind.TheVariants as kinds
+use Rattle.om_code.specs.Rules.{IsVertex}
+use Rattle.om_code.proofs.FirstRow.{AllBelow}
+use Rattle.om_code.proofs.rows.vertex_break.Given as goal
+
+-- the rows that were passed keep the rule
+abbrev pub invariant-loop-k : goal.invariant-loop-k
+invariant-loop-k l = AllBelow kinds.Row l.code.model.vertices (IsVertex l.code) l.k

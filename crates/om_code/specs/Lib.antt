@@ -1,0 +1,16 @@
+pub mod Plain
+pub mod Slots
+pub mod DenOrder
+pub mod Rules
+pub mod Readable
+pub mod Verified
+pub mod Lines
+pub mod Waves
+pub mod Vertices
+pub mod Meaning
+pub mod Spans
+pub mod SlotPlans
+pub mod Registers
+pub mod Ops
+pub mod Laws
+pub mod Contents

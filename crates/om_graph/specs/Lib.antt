@@ -1,0 +1,16 @@
+pub mod Fusion
+pub mod Graph
+pub mod Search
+pub mod Tuples
+pub mod Splits
+pub mod Vertices
+pub mod Reactions
+pub mod Possible
+pub mod TreeKeys
+pub mod ColoursFit
+pub mod HaveReactions
+pub mod Loops
+pub mod Caches
+pub mod Fillings
+pub mod SetSearch
+pub mod SetWalk

@@ -1,0 +1,12 @@
+pub mod Keystones
+pub mod InDiagrams
+pub mod CanonicalGraph
+pub mod Pruning
+pub mod Built
+pub mod EdgeRules
+pub mod NodeWaves
+pub mod PartOf
+pub mod VertexTerms
+pub mod NodeNames
+pub mod Laws
+pub mod TermSigns

@@ -1,0 +1,74 @@
+//! Marks on the nodes that keystone terms reach by terms.
+ghost use Rattle.std.specs.Prelude.{◌≡◌, IfOk, map, slice_set, true};
+ghost use Rattle.om_graph.specs.Possible.{nodes_at, unsigned, unsigned_key};
+ghost use Rattle.om_keystone.specs.Pruning.{is_marked, mark_all, mark_terms, marks_of};
+
+use om_graph::{KeyTerm, Term};
+use om_legs::Branches;
+use om_ring::NoMemory;
+use std::alloc::Global;
+
+/// The marks of the nodes that are reached, by one pass over the keystone terms and one over the terms, last to first.
+pub(crate) fn marks_of(
+    alloc: Global,
+    count: usize,
+    terms: &[Term],
+    keys: &[KeyTerm],
+) -> Result<Vec<bool>, NoMemory>
+    ensures marks { IfOk result (λ marks. marks.items ≡ marks_of count (map unsigned terms.now) (map unsigned_key keys.now)) }
+{
+    let Ok(mut marks) = vec![in alloc; false; count] else {
+        return Err(NoMemory);
+    };
+    for key in keys {
+        mark_all(&mut marks, nodes_of(&key.branches));
+    }
+    mark_terms(&mut marks, terms);
+    Ok(marks)
+}
+
+/// The nodes that meet.
+fn nodes_of(branches: &Branches) -> &[u32]
+    ensures { result.now ≡ nodes_at branches.now }
+{
+    &branches.nodes[..branches.count as usize]
+}
+
+/// Marks nodes; a number past the last node marks nothing.
+fn mark_all(marks: &mut Vec<bool>, nodes: &[u32])
+    ensures { marks.new.items ≡ mark_all marks.old.items nodes.now }
+{
+    for node in nodes {
+        mark(marks, *node);
+    }
+}
+
+fn mark(marks: &mut Vec<bool>, node: u32)
+    ensures { marks.new.items ≡ slice_set marks.old.items node true }
+{
+    let node = node as usize;
+    if node < marks.len() {
+        marks[node] = true;
+    }
+}
+
+/// Marks the branches of the nodes that are marked, by the last term first: a branch has a lesser number than its node, so
+/// all terms that could mark a node come before the node's own.
+fn mark_terms(marks: &mut Vec<bool>, terms: &[Term])
+    ensures { marks.new.items ≡ mark_terms marks.old.items (map unsigned terms.now) }
+{
+    for i in (0..terms.len()).rev() {
+        let term = terms[i];
+        if has_mark(marks.as_slice(), term.node) {
+            mark_all(marks, nodes_of(&term.branches));
+        }
+    }
+}
+
+/// Whether a node is marked; a number past the last node isn't.
+pub(crate) fn has_mark(marks: &[bool], node: u32) -> bool
+    ensures { result ≡ is_marked marks.now node }
+{
+    let node = node as usize;
+    node < marks.len() && marks[node]
+}
