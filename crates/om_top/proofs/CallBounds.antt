@@ -1,5 +1,5 @@
 -- How many calls of the ring the commands make at most.
-use Rattle.std.proofs.Common.{◌≡◌, ℕ, ◌+◌, ◌*◌, ◌≤◌, List, [], length, map, Option, Some, None, IfSome, Ok, refl, ap, sym, ◌∙◌, arith, inl, inr}
+use Rattle.std.proofs.Common.{◌≡◌, ℕ, ◌+◌, ◌*◌, ◌≤◌, List, [], length, map, Option, Some, None, Ok, refl, ap, sym, ◌∙◌, arith, inl, inr}
 use Rattle.std.specs.List.{sum_by}
 use Rattle.std.proofs.Math.Nat.{mul-le-mul_right}
 use Rattle.om_ring.specs.Ops.{Ops}
@@ -14,7 +14,6 @@ use Rattle.om_model.proofs.AllDiagrams.{diagrams, diagrams_are}
 use Rattle.om_model.proofs.Counting.{length-upto}
 use Rattle.om_modelfile.specs.ModelOf.{rows_read}
 use Rattle.om_top.specs.Calls.{CheckMayCall, EvalMayCall, LoadMayCall, answer_calls, evaluation_calls, file_calls, legs_calls, numbers_calls, search_calls, value_calls}
-use Rattle.om_top.specs.Causes.{AreEvaluated}
 use Rattle.om_top.specs.Loads.{HoldsModel, SaysProcess}
 use Rattle.om_top.specs.Outside.{Side, Holds}
 use Rattle.om_top.specs.Shapes.{ListsDiagrams, shape_of}

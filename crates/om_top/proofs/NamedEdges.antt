@@ -7,8 +7,7 @@ use Rattle.om_ring.specs.Members.{In}
 use Rattle.om_legs.specs.Legs.{holds as holds_leg}
 use Rattle.om_model.specs.Theory.{Scattering}
 use Rattle.om_model.specs.Tree.{Tree}
-use Rattle.om_model.specs.Tree.Tree.{leaf, join}
-use Rattle.om_model.specs.Diagram.{upto, times_in, all_in, field_of}
+use Rattle.om_model.specs.Diagram.{upto, all_in, field_of}
 use Rattle.om_model.specs.Diagrams.{any_in, same_test, same_legs, is_side, has_edge}
 use Rattle.om_model.specs.Parts.{holds, others, within}
 use Rattle.om_model.specs.Event.{members}

@@ -1,4 +1,4 @@
-use Rattle.std.proofs.Common.{arith, sym, ◌∙◌}
+use Rattle.std.proofs.Common.{sym, ◌∙◌}
 use Rattle.om_legs.specs.Legs.{holds}
 use Rattle.om_top.specs.NamedEdges.{parts}
 use Rattle.om_top.proofs.NamedEdges.{none_more, none_yet, some_here}
