@@ -18,3 +18,4 @@ pub mod WithinPart
 pub mod TableRows
 pub mod DecodeLoop
 pub mod Listing
+pub mod LoadedRows
