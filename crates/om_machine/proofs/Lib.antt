@@ -19,3 +19,5 @@ pub mod TableRows
 pub mod DecodeLoop
 pub mod Listing
 pub mod LoadedRows
+pub mod TableMeaning
+pub mod EventWaves
