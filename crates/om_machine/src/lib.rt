@@ -14,6 +14,7 @@ mod loading;
 mod machine;
 mod momenta;
 mod numbers;
+mod reads;
 mod rows;
 mod run;
 mod sets;
@@ -25,5 +26,7 @@ pub use event::Event;
 pub use loading::{LoadFault, load};
 pub use machine::Machine;
 
+#[cfg(test)]
+mod test_codes;
 #[cfg(test)]
 mod tests;

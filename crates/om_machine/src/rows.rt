@@ -4,7 +4,7 @@ ghost use Rattle.om_lorentz.specs.declared.structures.Spin.TheVariants.{Vector};
 ghost use Rattle.om_lorentz.specs.Propagators.{MassAgrees};
 ghost use Rattle.om_model.specs.Rules.{HasFactorWithoutValue, HasLengths, HasNoInverse};
 ghost use Rattle.std.specs.List.{AllByRecursion};
-ghost use Rattle.om_code.specs.Lines.{IsVerified};
+ghost use Rattle.om_code.specs.Verified.{IsVerified};
 ghost use Rattle.om_code.specs.Plain.{IsProduct};
 ghost use Rattle.om_machine.specs.Rows.{HasFactors, HasMasses, HaveFactors, HaveMasses, IsParticleFault, IsVertexFault, product_or_zero};
 

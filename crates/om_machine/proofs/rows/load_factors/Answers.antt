@@ -1,7 +1,6 @@
 use Rattle.std.proofs.Common.{◌≡◌, ◌++◌, ◌∷◌, [], ◌+◌, ◌*◌, length, ◌<◌, ◌≤◌, arith, sym, ◌∙◌, ap, subst}
 use Rattle.om_machine.specs.Rows.{HaveFactors}
 use Rattle.om_machine.proofs.FactorRows.{few-factors, has-values, more-factors, more-sound}
-use Rattle.om_machine.proofs.VerifiedFacts.{few-vertices}
 use Rattle.om_machine.proofs.rows.load_factors.Goals as goal
 
 pub loop-k-preserved : goal.loop-k-preserved
@@ -19,12 +18,8 @@ loop-k-preserved g c =
 
 pub overflow_cast-result : goal.overflow_cast-result
 overflow_cast-result g c =
-    let few = few-vertices c.args.code.now c.requires c.loop-k.k (omega arith) in
-    let many = c.requires.plain.few_particles in
-    omega (arith, c.len.ensures, few, many)
+    omega (arith, c.len.ensures, c.requires.model.particles, c.requires.model.vertices)
 
 pub overflow_add-result-in_default : goal.overflow_add-result-in_default
 overflow_add-result-in_default g c =
-    let few = few-vertices c.args.code.now c.requires c.loop-k.k (omega arith) in
-    let many = c.requires.plain.few_particles in
-    omega (arith, c.len.ensures, few, many)
+    omega (arith, c.len.ensures, c.requires.model.particles, c.requires.model.vertices)
