@@ -24,7 +24,8 @@ pub(crate) fn load_masses<R: Ring<Mark = L>, L>(
     steps: &mut Steps<L>,
 ) -> Result<List<Masses<R::E>>, LoadFault>
     requires { IsVerified code.now }
-    ensures value { let o = R.ops ring.now in MatchResult result (HaveMasses o code.now.model.particles (length code.now.model.particles)) (IsParticleFault o code.now) }
+    ensures value { let o = R.ops ring.now in let rows = code.now.model.particles in
+        MatchResult result (HaveMasses o rows (length rows)) (IsParticleFault o code.now) }
     ensures at_most { steps.new ≤ steps.old + length code.now.model.particles * (200 * R.cost ring.now) }
 {
     let mut masses = List::new(alloc);
@@ -76,7 +77,8 @@ fn kept_inverse<R: Ring<Mark = L>, L>(
     mass: R::E,
     steps: &mut Steps<L>,
 ) -> Option<Kept<R::E>>
-    ensures value { let o = R.ops ring.now in MatchOption result ((spin ≡ Vector) × (mass ≢ o.zero) × (o.inverse mass ≡ None)) (λ k. MassAgrees o spin mass k.inverse k.massive) }
+    ensures value { let o = R.ops ring.now in
+        MatchOption result ((spin ≡ Vector) × (mass ≢ o.zero) × (o.inverse mass ≡ None)) (λ k. MassAgrees o spin mass k.inverse k.massive) }
     ensures at_most { steps.new ≤ steps.old + R.cost ring.now }
 {
     match spin {
@@ -102,7 +104,8 @@ pub(crate) fn load_factors<R: Ring<Mark = L>, L>(
     steps: &mut Steps<L>,
 ) -> Result<List<Factors<R::E>>, LoadFault>
     requires { IsVerified code.now }
-    ensures value { let o = R.ops ring.now in MatchResult result (HaveFactors o code.now.model.vertices (length code.now.model.vertices)) (IsVertexFault o code.now) }
+    ensures value { let o = R.ops ring.now in let rows = code.now.model.vertices in
+        MatchResult result (HaveFactors o rows (length rows)) (IsVertexFault o code.now) }
     ensures at_most { steps.new ≤ steps.old + length code.now.model.vertices * (200 * R.cost ring.now) }
 {
     let mut factors = List::new(alloc);

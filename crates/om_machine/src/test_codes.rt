@@ -88,9 +88,21 @@ fn listed<T: Copy>(alloc: Global, all: &[T]) -> Option<List<T>> {
 // One real scalar that meets itself.
 fn scalar_model(alloc: Global, bad: usize) -> Option<Model> {
     let mut particles = List::new(alloc);
-    push_particle(alloc, &mut particles, [b"phi", b"phi"], Spin::Scalar, number(0, bad))?;
+    push_particle(
+        alloc,
+        &mut particles,
+        [b"phi", b"phi"],
+        Spin::Scalar,
+        number(0, bad),
+    )?;
     let mut vertices = List::new(alloc);
-    push_vertex(alloc, &mut vertices, Structure::Sss, [0, 0, 0], &[number(1, bad)])?;
+    push_vertex(
+        alloc,
+        &mut vertices,
+        Structure::Sss,
+        [0, 0, 0],
+        &[number(1, bad)],
+    )?;
     Some(Model {
         name: Name::read(b"phi3")?,
         particles,
@@ -101,12 +113,42 @@ fn scalar_model(alloc: Global, bad: usize) -> Option<Model> {
 // Electrons, muons and photons.
 fn muon_model(alloc: Global, bad: usize) -> Option<Model> {
     let mut particles = List::new(alloc);
-    push_particle(alloc, &mut particles, [b"e-", b"e+"], Spin::Dirac, number(0, bad))?;
-    push_particle(alloc, &mut particles, [b"mu-", b"mu+"], Spin::Dirac, number(1, bad))?;
-    push_particle(alloc, &mut particles, [b"A", b"A"], Spin::Vector, number(2, bad))?;
+    push_particle(
+        alloc,
+        &mut particles,
+        [b"e-", b"e+"],
+        Spin::Dirac,
+        number(0, bad),
+    )?;
+    push_particle(
+        alloc,
+        &mut particles,
+        [b"mu-", b"mu+"],
+        Spin::Dirac,
+        number(1, bad),
+    )?;
+    push_particle(
+        alloc,
+        &mut particles,
+        [b"A", b"A"],
+        Spin::Vector,
+        number(2, bad),
+    )?;
     let mut vertices = List::new(alloc);
-    push_vertex(alloc, &mut vertices, Structure::Ffv, [1, 0, 4], &[number(3, bad), "0"])?;
-    push_vertex(alloc, &mut vertices, Structure::Ffv, [3, 2, 4], &[number(4, bad), "0"])?;
+    push_vertex(
+        alloc,
+        &mut vertices,
+        Structure::Ffv,
+        [1, 0, 4],
+        &[number(3, bad), "0"],
+    )?;
+    push_vertex(
+        alloc,
+        &mut vertices,
+        Structure::Ffv,
+        [3, 2, 4],
+        &[number(4, bad), "0"],
+    )?;
     Some(Model {
         name: Name::read(b"qed")?,
         particles,
