@@ -21,7 +21,7 @@ use Rattle.om_code.specs.declared.slots.Phase.TheVariants.{Ready}
 use Rattle.om_code.specs.Slots as slots
 use Rattle.om_code.specs.Slots.{nothing, held_at, is_gathering, nodes_of, branches_held, fused, after, at_start, field_of_leg, slots_of_vertex}
 use Rattle.om_code.specs.Waves.{Incoming, plus_wave, signed_wave, wave_of, wave_of_leg, zero_wave}
-use Rattle.om_code.specs.Vertices.{branch, branches_of, entering_or_none, hole_by, hole_in, into_slots, reading_of_vertex, slots_with, sorted_into, structure_of, upwards, wave_from}
+use Rattle.om_code.specs.Vertices.{branch, branches_of, entering_or_none, hole_by, hole_in, into_slots, reading_of_vertex, slots_with, structure_of, upwards, wave_from}
 use Rattle.om_code.specs.Meaning as machine
 use Rattle.om_code.specs.Meaning.{Values, sums_of, zeros}
 use Rattle.om_code.specs.Registers.{State, written, joined, act, run, start}

@@ -1,5 +1,5 @@
 -- The order of denominators as an order of lists of numbers.
-use Rattle.std.proofs.Common.{◌≡◌, ◌↔◌, ℕ, ◌<◌, ◌⊎◌, inl, inr, [], ◌∷◌, Bool, true, false, cond, ltb, refl, sym, ◌∙◌, ap, arith, true≢false}
+use Rattle.std.proofs.Common.{◌≡◌, ◌↔◌, ℕ, inl, inr, [], ◌∷◌, Bool, true, false, cond, ltb, refl, sym, ◌∙◌, ap, arith, true≢false}
 use Rattle.std.specs.Cmp.{nat_cmp_is}
 use Rattle.std.specs.Ordering.{nat_cmp, ordering_then}
 use Rattle.std.specs.declared.cmp.Ordering.{Ordering}
@@ -7,8 +7,6 @@ use Rattle.std.specs.declared.cmp.Ordering.TheVariants.{Less, Equal, Greater}
 use Rattle.std.proofs.lemmas.Bool.{cases_order}
 use Rattle.std.proofs.lemmas.Bool.Decides.{nat_tests}
 use Rattle.om_model.specs.Order.{numbers_lt}
-use Rattle.om_code.specs.declared.code.Den.{Den}
-use Rattle.om_code.specs.DenOrder.{den_order}
 use Rattle.om_code.specs.Laws.{DensByNumbers}
 
 greater-less : Greater ≡ Less → ⊥

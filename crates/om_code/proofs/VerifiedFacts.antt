@@ -1,5 +1,5 @@
 -- Verified codes, by their lines.
-use Rattle.std.proofs.Common.{◌≡◌, ℕ, ◌<◌, ◌≤◌, ◌⊎◌, inl, inr, ⊎_elim, List, length, Some, arith}
+use Rattle.std.proofs.Common.{◌≡◌, ℕ, ◌<◌, ◌≤◌, inl, inr, ⊎_elim, List, length, Some, arith}
 use Rattle.std.specs.Prelude.{slice_get}
 use Rattle.std.proofs.lemmas.Bool.{cases_lt, true≢false}
 use Rattle.std.proofs.lemmas.Option.{slice_get_cases, slice_get_within}
@@ -10,7 +10,7 @@ use Rattle.om_code.specs.declared.code.CodeKind.TheVariants as kinds
 use Rattle.om_code.specs.declared.code.Code.{Code}
 use Rattle.om_code.specs.Plain.{IsPlain}
 use Rattle.om_code.specs.Rules.{IsDen, IsFlow, IsParticle, IsVertex}
-use Rattle.om_code.specs.Lines.{behind_dens, behind_flows, behind_legs, behind_particles, behind_slots, behind_vertices, den_lines, end_line, flow_lines, instr_lines, leg_lines, particle_lines, program_lines, slots_line, slots_lines, then_lines, vertex_lines}
+use Rattle.om_code.specs.Lines.{behind_dens, behind_flows, behind_legs, behind_particles, behind_slots, behind_vertices, den_lines, end_line, flow_lines, instr_lines, leg_lines, particle_lines, program_lines, slots_line, slots_lines, vertex_lines}
 use Rattle.om_code.specs.Verified.{IsVerified}
 use Rattle.om_code.proofs.Groups.{Refutes, both-refute, rows-refute}
 use Rattle.om_code.proofs.Instrs.{instrs-refute, legs-refute, slots-refute}

@@ -9,9 +9,8 @@ ghost use Rattle.om_code.specs.Slots.{fields_of, left_field as left_field_of, sl
 use crate::fields::{fill_slots, left_field};
 use crate::slots::{branches_held, fused, held_at, slots_of_vertex, union_of};
 use crate::{Code, Held, Instr};
-use om_legs::LegSet;
+use om_legs::{LegSet, MOST_LEGS};
 use om_model::anti_field;
-use om_model::limits::MOST_LEGS;
 
 /// Whether the legs of the branches are those that an instruction needs.
 pub(crate) fn has_sets(code: &Code, held: &[Held], instr: &Instr) -> bool

@@ -1,14 +1,14 @@
 //! Which codes have a text.
 ghost use Rattle.std.specs.Prelude.{◌≤◌, ◌↔◌, ◌≡◌, IsTrue, length};
 ghost use Rattle.std.specs.List.{AllByRecursion};
-ghost use Rattle.om_code.specs.Plain.{HasPlainLines, HasPlainModel, IsNamed, IsPlain, IsPlainDen, IsPlainFlow, IsPlainParticle, IsPlainVertex, IsProduct, field_name};
+ghost use Rattle.om_code.specs.Plain.{HasPlainLines, HasPlainModel, IsNamed, IsPlain, IsPlainDen, IsPlainFlow, IsPlainParticle, IsPlainVertex, IsProduct};
 
 use crate::plain_instrs::has_plain_instrs;
 use crate::{Code, Den, MOST_PARTICLE_LINES};
 use om_colour::Flow;
-use om_legs::LegSet;
-use om_model::limits::{MOST_LEGS, MOST_NUMERALS};
-use om_model::{Particle, Product, Vertex, field_named};
+use om_legs::{LegSet, MOST_LEGS};
+use om_model::limits::MOST_NUMERALS;
+use om_model::{Particle, Product, Vertex, field_name, field_named};
 
 /// Whether a code is plain, so that it has a text. Its version is 1 or 2; it has at most 32,768 particles; each of its fields
 /// is that of a particle, and the first that its name means; numbers that count from 1 in the text stay below 2^32; products,
@@ -79,19 +79,9 @@ fn is_named(particles: &[Particle], field: u16) -> bool
     requires { length particles.now ≤ MOST_PARTICLE_LINES }
     ensures { IsTrue result ↔ IsNamed particles.now field }
 {
-    match field_named(particles, name_of_field(particles, field)) {
+    match field_named(particles, field_name(particles, field)) {
         Some(named) => named == field,
         None => false,
-    }
-}
-
-fn name_of_field(particles: &[Particle], field: u16) -> &[u8]
-    ensures { result.now ≡ field_name particles.now field }
-{
-    match particles.get(usize::from(field / 2)) {
-        Some(particle) if field % 2 == 0 => particle.name.bytes(),
-        Some(particle) => particle.anti.bytes(),
-        None => &[],
     }
 }
 
@@ -136,7 +126,7 @@ fn is_plain_flow(flow: &Flow) -> bool
     ensures { IsTrue result ↔ IsPlainFlow flow.now }
 {
     for end in &flow.ends {
-        if usize::from(*end) > MOST_LEGS {
+        if *end > MOST_LEGS {
             return false;
         }
     }

@@ -1,6 +1,6 @@
 use Rattle.std.proofs.Common.{◌≤◌, drop, ◌↔◌}
 use Rattle.std.specs.List.{AllByRecursion}
-use Rattle.om_model.specs.declared.limits.TheConstants.{MOST_LEGS}
+use Rattle.om_legs.specs.declared.leg_set.TheConstants.{MOST_LEGS}
 use Rattle.om_code.proofs.plain.is_plain_flow.Given as goal
 
 -- whether all are plain is whether those that are left are
