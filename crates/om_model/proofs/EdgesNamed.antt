@@ -3,7 +3,7 @@ use Rattle.std.proofs.Common.{◌≡◌, ℕ, zero, suc, ◌+◌, ◌≤◌, Lis
 use Rattle.std.specs.Prelude.{Option, Some, None, Result, Ok, Err, slice_get, nat_le, if◌then◌else◌}
 use Rattle.std.specs.List.{list_all, list_any}
 use Rattle.std.proofs.lemmas.Bool.Decides.{nat_tests}
-use Rattle.om_legs.specs.Legs.{IsLegSet, holds, size, minus, all_legs}
+use Rattle.om_legs.specs.Legs.{holds, size, minus, all_legs}
 use Rattle.om_legs.proofs.Bits.{IsLegSet-set_of, holds-set_of, leg_range, same_sets}
 use Rattle.om_legs.proofs.LegLists.{holds_none}
 use Rattle.om_legs.proofs.Operations.{holds-all_legs, holds-minus}

@@ -1,5 +1,5 @@
 -- The names of fields, both ways.
-use Rattle.std.proofs.Common.{◌≡◌, ℕ, zero, suc, ◌+◌, ◌*◌, ◌/◌, ◌%◌, ◌<◌, ◌≤◌, List, [], ◌∷◌, take, length, Bool, true, false, cond, not, ◌&&◌, ◌||◌, inl, inr, refl, ap, sym, ◌∙◌, arith, true≢false}
+use Rattle.std.proofs.Common.{◌≡◌, ℕ, zero, suc, ◌+◌, ◌*◌, ◌/◌, ◌%◌, ◌<◌, List, [], ◌∷◌, take, length, Bool, true, false, not, ◌&&◌, ◌||◌, inl, inr, refl, ap, sym, ◌∙◌, arith, true≢false}
 use Rattle.std.specs.Prelude.{Option, Some, None, slice_get, ◌==◌, nat_lt}
 use Rattle.std.specs.Str.{bytes_eq}
 use Rattle.std.proofs.lemmas.Bool.Decides.{nat_tests}
@@ -9,10 +9,10 @@ use Rattle.om_model.specs.declared.model.Particle.{Particle}
 use Rattle.om_model.specs.declared.model.Model.{Model}
 use Rattle.om_model.specs.FieldNames.{field_from, field_named, name_in, field_name, FieldNamesAreRead}
 use Rattle.om_model.specs.Model.{particle_of, is_own_anti, is_field}
-use Rattle.om_model.specs.Rules.{has_name, is_name_of, IsFormedParticle}
+use Rattle.om_model.specs.Rules.{has_name, is_name_of}
 use Rattle.om_model.specs.WellFormed.{IsWellFormed}
 use Rattle.om_model.proofs.Counting.{both}
-use Rattle.om_model.proofs.LegFields.{IsIn, named_in, field_there}
+use Rattle.om_model.proofs.LegFields.{named_in, field_there}
 
 bytes_eq-swapped : (xs ys : List ℕ) → bytes_eq xs ys ≡ true → bytes_eq ys xs ≡ true
 bytes_eq-swapped xs ys e = (bytes_eq-Decides ys xs).1 (sym ((bytes_eq-Decides xs ys).0 e))

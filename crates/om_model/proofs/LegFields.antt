@@ -1,5 +1,5 @@
 -- The legs of a process have fields of the model.
-use Rattle.std.proofs.Common.{◌≡◌, ℕ, zero, suc, ◌+◌, ◌*◌, ◌/◌, ◌%◌, ◌<◌, List, [], ◌∷◌, length, Bool, true, false, cond, not, ◌&&◌, ◌||◌, eqb, ltb, ◌⊎◌, inl, inr, refl, ap, sym, ◌∙◌, arith, true≢false}
+use Rattle.std.proofs.Common.{◌≡◌, ℕ, zero, suc, ◌+◌, ◌*◌, ◌/◌, ◌%◌, ◌<◌, List, [], ◌∷◌, length, Bool, true, false, cond, not, ◌&&◌, ◌||◌, refl, ap, sym, ◌∙◌, arith, true≢false}
 use Rattle.std.specs.Prelude.{Option, Some, None, Result, Ok, Err, slice_get, ◌==◌, nat_lt}
 use Rattle.std.specs.Str.{bytes_eq}
 use Rattle.std.proofs.lemmas.Bool.Decides.{nat_tests}
@@ -10,7 +10,7 @@ use Rattle.om_model.specs.declared.process.Leg.{Leg}
 use Rattle.om_model.specs.FieldNames.{field_from, field_named, name_in}
 use Rattle.om_model.specs.Model.{particle_of, is_own_anti, is_field, anti_field}
 use Rattle.om_model.specs.ProcessText.{Named, leg_of, legs_from, with_first}
-use Rattle.om_model.proofs.ModelFields.{own, anti_own, anti_row, same_particle}
+use Rattle.om_model.proofs.ModelFields.{own, anti_own, anti_row}
 use Rattle.om_model.proofs.NamedLegs.{from-unknown, from-known}
 
 -- the row of a field with a name, and that it has two fields where the name is the antiname

@@ -1,6 +1,6 @@
 -- The numbers of a set, one by one.
-use Rattle.std.proofs.Common.{◌≡◌, ℕ, ◌<◌, ◌≤◌, List, [], ◌∷◌, Bool, true, false, eqb, ◌&&◌, refl, ap, sym, ◌∙◌, arith, Some, None}
-use Rattle.std.specs.Prelude.{Option, option_map, nat_le, nat_lt, if◌then◌else◌}
+use Rattle.std.proofs.Common.{◌≡◌, ℕ, ◌<◌, List, [], ◌∷◌, Bool, true, false, eqb, ◌&&◌, refl, ap, sym, ◌∙◌, arith, Some, None}
+use Rattle.std.specs.Prelude.{Option, option_map, nat_le, nat_lt}
 use Rattle.std.specs.List.{list_all, slice_split}
 use Rattle.std.proofs.lemmas.Bool.Decides.{nat_tests}
 use Rattle.om_model.specs.LegSetText.{leg_number, numbers_above, set_numbers, last_number}
@@ -42,7 +42,7 @@ numbers-first last piece pieces ks e = by (leg_number piece) refl
     by None q = absurd (let gone = numbers-bad last piece pieces q in let never : ⊥ = cc in never)
     by (Some k) q = rising k q (nat_lt last k) refl
 
-no_more : (last : ℕ) (ks : List ℕ) → numbers_above last [] ≡ Some ks → ks ≡ []
+pub no_more : (last : ℕ) (ks : List ℕ) → numbers_above last [] ≡ Some ks → ks ≡ []
 unfolding numbers_above
 no_more last ks e = cc
 

@@ -1,8 +1,8 @@
 -- The legs of the first numbers of a set, and of one number more.
-use Rattle.std.proofs.Common.{◌≡◌, ℕ, zero, suc, ◌+◌, ◌<◌, ◌≤◌, List, [], ◌∷◌, Bool, true, false, eqb, ◌||◌, take, drop, refl, ap, sym, subst, ◌∙◌, arith, Some, None}
+use Rattle.std.proofs.Common.{◌≡◌, ℕ, suc, ◌<◌, ◌≤◌, List, [], ◌∷◌, Bool, true, false, eqb, ◌||◌, refl, ap, sym, subst, ◌∙◌, arith, Some, None}
 use Rattle.std.specs.Prelude.{Option, option_map, nat_lt, if◌then◌else◌}
 use Rattle.std.specs.Int.{bit_at}
-use Rattle.std.specs.List.{list_any, slice_split}
+use Rattle.std.specs.List.{list_any}
 use Rattle.std.proofs.lemmas.Bool.Decides.{nat_tests}
 use Rattle.om_legs.specs.Legs.{IsLegSet, holds, set_of, set_of_one, union}
 use Rattle.om_legs.proofs.Bits.{IsLegSet-set_of, bit, bit-holds, bit_at-set_of, holds-set_of, same_set_of}

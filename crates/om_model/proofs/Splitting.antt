@@ -1,6 +1,6 @@
 -- The parts of a text between bytes, the first of them cut off.
 use Rattle.std.proofs.lemmas.List.{take_all, length-drop, drop-drop}
-use Rattle.std.proofs.Common.{◌≡◌, ℕ, ◌-◌, sym, ap₂, ◌+◌, ◌<◌, ◌≤◌, ltb, Bool, true, false, cond, List, [], ◌∷◌, length, take, drop, Some, None, refl, ap, ◌∙◌, arith}
+use Rattle.std.proofs.Common.{◌≡◌, ℕ, ◌-◌, sym, ap₂, ◌+◌, ◌≤◌, ltb, Bool, true, false, cond, List, [], ◌∷◌, length, take, drop, Some, None, refl, ap, ◌∙◌, arith}
 use Rattle.std.specs.List.{slice_split, position, position_or_len}
 use Rattle.std.proofs.lemmas.Bool.{ltb-true, ltb-false}
 use Rattle.std.proofs.lemmas.List.Splits.{slice_split_first, slice_split_none}

@@ -1,5 +1,5 @@
 -- The words of structures, spins and colours, both ways.
-use Rattle.std.proofs.Common.{◌≡◌, ℕ, List, Some, None, true, false, Bool, refl, ap, sym, ◌∙◌, codes}
+use Rattle.std.proofs.Common.{◌≡◌, ℕ, List, Some, true, false, Bool, refl, ap, ◌∙◌}
 use Rattle.std.specs.Prelude.{Option, if◌then◌else◌}
 use Rattle.std.specs.Str.{bytes_eq}
 use Rattle.std.proofs.lemmas.Slice.Eq.{bytes_eq-Decides}

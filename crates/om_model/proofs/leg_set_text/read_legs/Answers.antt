@@ -1,4 +1,4 @@
-use Rattle.std.proofs.Common.{rules, ◌≡◌, [], ◌∷◌, eqb, sym, ◌∙◌, ap, Some, None, List, ℕ}
+use Rattle.std.proofs.Common.{◌≡◌, eqb, sym, ◌∙◌, ap, Some, None}
 use Rattle.std.specs.List.{slice_split}
 use Rattle.om_model.specs.LegSetText.{leg_number, numbers_above, one_more}
 use Rattle.om_model.specs.declared.leg_set_text.LegsRead.{LegsRead}

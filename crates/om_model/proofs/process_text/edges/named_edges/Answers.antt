@@ -1,4 +1,4 @@
-use Rattle.std.proofs.Common.{◌≡◌, sym, ◌∙◌, ap}
+use Rattle.std.proofs.Common.{sym, ◌∙◌, ap}
 use Rattle.om_model.specs.Tokens.{IsNextToken, rest_tokens}
 use Rattle.om_model.specs.ProcessText.{edges_from}
 use Rattle.om_model.proofs.FirstFault.{behind}
