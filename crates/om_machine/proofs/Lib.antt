@@ -6,7 +6,6 @@ pub mod Answering
 pub mod Lengths
 pub mod Each
 pub mod IntoSlots
-pub mod Readings
 pub mod FieldKinds
 pub mod Entered
 pub mod VerifiedFacts
