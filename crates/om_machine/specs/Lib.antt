@@ -1,0 +1,12 @@
+pub mod Events
+pub mod Forms
+pub mod Decoded
+pub mod Momenta
+pub mod Loaded
+pub mod Rows
+pub mod Bound
+pub mod Machines
+pub mod LoadFaults
+pub mod Sets
+pub mod Filled
+pub mod Laws

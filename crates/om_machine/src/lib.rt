@@ -1,0 +1,32 @@
+//! The register machine: events, and the evaluation of verified codes.
+//!
+//! `load` decodes each instruction once: the structure and the reading of its vertex, and slot by slot where the wave comes from
+//! and which legs lie behind it. `evaluate` walks over the decoded steps and calls the kernels; it takes no memory.
+#![tactic(auto)]
+
+mod answer;
+mod decoding;
+mod edges;
+mod event;
+mod filling;
+pub mod laws;
+mod loading;
+mod machine;
+mod momenta;
+mod numbers;
+mod reads;
+mod rows;
+mod run;
+mod sets;
+mod step;
+mod vectors;
+
+pub use answer::Outcome;
+pub use event::Event;
+pub use loading::{LoadFault, load};
+pub use machine::Machine;
+
+#[cfg(test)]
+mod test_codes;
+#[cfg(test)]
+mod tests;
