@@ -1,0 +1,15 @@
+pub mod BranchEquality
+pub mod BranchLists
+pub mod Flows
+pub mod InRange
+pub mod Instrs
+pub mod Laws
+pub mod Lines
+pub mod Heads
+pub mod Lists
+pub mod Program
+pub mod Reading
+pub mod Rows
+pub mod Slots
+pub mod Spelt
+pub mod Vertices

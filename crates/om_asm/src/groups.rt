@@ -1,0 +1,187 @@
+//! The kinds of lines that are read.
+ghost use Rattle.std.specs.Prelude.{◌≡◌, ◌≤◌, ◌&&◌, IfOk, codes, length, nat_lt};
+ghost use Rattle.std.specs.Str.{bytes_eq};
+ghost use Rattle.om_asm.specs.Rows.{Gives, GivesAt, formed};
+ghost use Rattle.om_asm.specs.Reading.{particle_row, leg_row, den_row};
+ghost use Rattle.om_asm.specs.Vertices.{vertex_row};
+ghost use Rattle.om_asm.specs.Flows.{flow_line};
+ghost use Rattle.om_asm.specs.Program.{particles_at, rows_at};
+
+use crate::fault::{AsmFault, AsmKind, LineFault};
+use crate::lines::{Lines, Words};
+use crate::flow_line::read_flow_line;
+use crate::field_lines::{read_den_line, read_leg_line};
+use crate::particle_line::read_particle_line;
+use crate::rows::{LineKind, read_list};
+use crate::vertex_line::read_vertex_line;
+use om_code::Den;
+use om_colour::Flow;
+use om_model::{Particle, Vertex};
+use om_ring::List;
+use std::alloc::Global;
+
+const MOST_PARTICLES: usize = 32768;
+
+const PARTICLE: &[u8] = b"particle";
+
+const VERTEX: &[u8] = b"vertex";
+
+const LEG: &[u8] = b"leg";
+
+const FLOW: &[u8] = b"flow";
+
+const DEN: &[u8] = b"den";
+
+#[derive(Drop)]
+struct Particles;
+
+impl LineKind for Particles {
+    type Row = Particle;
+
+    ghost starts = { λ _ count w. bytes_eq w (codes "particle") && nat_lt count 32768 };
+
+    ghost row_of = { λ _ _ words. particle_row words };
+
+    fn begins(&self, count: usize, word: &[u8]) -> bool {
+        word == PARTICLE && count < MOST_PARTICLES
+    }
+
+    fn read(&self, alloc: Global, _word: &[u8], words: Words) -> Result<Particle, LineFault> {
+        read_particle_line(alloc, words)
+    }
+}
+
+#[derive(Drop)]
+struct Vertices<'a> {
+    particles: &'a List<Particle>,
+    ghost few: { length particles.now ≤ 32768 },
+}
+
+impl LineKind for Vertices<'_> {
+    type Row = Vertex;
+
+    ghost starts = { λ _ _ w. bytes_eq w (codes "vertex") };
+
+    ghost row_of = { λ kind _ words. vertex_row kind.particles.now words };
+
+    fn begins(&self, _count: usize, word: &[u8]) -> bool {
+        word == VERTEX
+    }
+
+    fn read(&self, alloc: Global, _word: &[u8], words: Words) -> Result<Vertex, LineFault> {
+        read_vertex_line(alloc, self.particles, words)
+    }
+}
+
+#[derive(Drop)]
+struct Legs<'a> {
+    particles: &'a List<Particle>,
+    ghost few: { length particles.now ≤ 32768 },
+}
+
+impl LineKind for Legs<'_> {
+    type Row = u16;
+
+    ghost starts = { λ _ _ w. bytes_eq w (codes "leg") };
+
+    ghost row_of = { λ kind _ words. leg_row kind.particles.now words };
+
+    fn begins(&self, _count: usize, word: &[u8]) -> bool {
+        word == LEG
+    }
+
+    fn read(&self, _alloc: Global, _word: &[u8], words: Words) -> Result<u16, LineFault> {
+        read_leg_line(self.particles, words)
+    }
+}
+
+#[derive(Drop)]
+struct Flows;
+
+impl LineKind for Flows {
+    type Row = Flow;
+
+    ghost starts = { λ _ _ w. bytes_eq w (codes "flow") };
+
+    ghost row_of = { λ _ _ words. formed (flow_line words) };
+
+    fn begins(&self, _count: usize, word: &[u8]) -> bool {
+        word == FLOW
+    }
+
+    fn read(&self, _alloc: Global, _word: &[u8], words: Words) -> Result<Flow, LineFault> {
+        match read_flow_line(words) {
+            Some(flow) => Ok(flow),
+            None => Err(LineFault::Bad(AsmKind::Grammar)),
+        }
+    }
+}
+
+#[derive(Drop)]
+struct Dens<'a> {
+    particles: &'a List<Particle>,
+    ghost few: { length particles.now ≤ 32768 },
+}
+
+impl LineKind for Dens<'_> {
+    type Row = Den;
+
+    ghost starts = { λ _ _ w. bytes_eq w (codes "den") };
+
+    ghost row_of = { λ kind _ words. den_row kind.particles.now words };
+
+    fn begins(&self, _count: usize, word: &[u8]) -> bool {
+        word == DEN
+    }
+
+    fn read(&self, _alloc: Global, _word: &[u8], words: Words) -> Result<Den, LineFault> {
+        read_den_line(self.particles, words)
+    }
+}
+
+/// At most 32,768 particles.
+pub(crate) fn read_particles(alloc: Global, lines: &mut Lines) -> Result<List<Particle>, AsmFault>
+    ensures rows { GivesAt (particles_at lines.old) result lines.new }
+    ensures few { IfOk result (λ particles. length particles ≤ 32768) }
+{
+    read_list(alloc, &Particles, lines)
+}
+
+pub(crate) fn read_vertices(
+    alloc: Global,
+    particles: &List<Particle>,
+    lines: &mut Lines,
+) -> Result<List<Vertex>, AsmFault>
+    requires { length particles.now ≤ 32768 }
+    ensures { GivesAt (rows_at (codes "vertex") (vertex_row particles.now) lines.old) result lines.new }
+{
+    read_list(alloc, &Vertices { particles }, lines)
+}
+
+pub(crate) fn read_legs(
+    alloc: Global,
+    particles: &List<Particle>,
+    lines: &mut Lines,
+) -> Result<List<u16>, AsmFault>
+    requires { length particles.now ≤ 32768 }
+    ensures { GivesAt (rows_at (codes "leg") (leg_row particles.now) lines.old) result lines.new }
+{
+    read_list(alloc, &Legs { particles }, lines)
+}
+
+pub(crate) fn read_flows(alloc: Global, lines: &mut Lines) -> Result<List<Flow>, AsmFault>
+    ensures { GivesAt (rows_at (codes "flow") (λ words. formed (flow_line words)) lines.old) result lines.new }
+{
+    read_list(alloc, &Flows, lines)
+}
+
+pub(crate) fn read_dens(
+    alloc: Global,
+    particles: &List<Particle>,
+    lines: &mut Lines,
+) -> Result<List<Den>, AsmFault>
+    requires { length particles.now ≤ 32768 }
+    ensures { GivesAt (rows_at (codes "den") (den_row particles.now) lines.old) result lines.new }
+{
+    read_list(alloc, &Dens { particles }, lines)
+}

@@ -1,0 +1,114 @@
+//! Reading the words of particles, sets and fields.
+ghost use Rattle.std.specs.Prelude.{◌≡◌, ◌≤◌, ◌==◌, length, Option as Maybe, List as ListOf};
+ghost use Rattle.std.specs.List.{slice_split};
+ghost use Rattle.om_model.specs.Words.{spin_of_word};
+ghost use Rattle.om_asm.specs.Lines.{Scans, word_by};
+ghost use Rattle.om_asm.specs.Reading.{name_of, colour_of, factor_of, legs_from, set_of, named};
+ghost use Rattle.om_asm.specs.Rows.{Gives};
+
+use crate::fault::{AsmKind, LineFault};
+use crate::lines::Words;
+use crate::numbers::read_number;
+use om_program_text::push_set;
+use om_colour::Colour;
+use om_legs::LegSet;
+use om_lorentz::Spin;
+use om_model::{Name, Particle, field_named, spin_of};
+use om_ring::{Line, List, Numeral, read_numeral, show_numeral};
+
+pub(crate) fn read_name(word: &[u8]) -> Option<Name>
+    ensures { result ≡ name_of word.now }
+{
+    Name::read(word)
+}
+
+pub(crate) fn next_name(words: &mut Words) -> Option<Name>
+    ensures { Scans (word_by name_of words.old) result words.new }
+{
+    read_name(words.next()?)
+}
+
+pub(crate) fn next_spin(words: &mut Words) -> Option<Spin>
+    ensures { Scans (word_by spin_of_word words.old) result words.new }
+{
+    spin_of(words.next()?)
+}
+
+fn read_colour(word: &[u8]) -> Option<Colour>
+    ensures { result ≡ colour_of word.now }
+{
+    match word {
+        b"1" => Some(Colour::One),
+        b"3" => Some(Colour::Three),
+        b"-3" => Some(Colour::AntiThree),
+        b"8" => Some(Colour::Eight),
+        _ => None,
+    }
+}
+
+pub(crate) fn next_colour(words: &mut Words) -> Option<Colour>
+    ensures { Scans (word_by colour_of words.old) result words.new }
+{
+    read_colour(words.next()?)
+}
+
+/// A numeral in its canonical spelling.
+pub(crate) fn read_factor(word: &[u8]) -> Option<Numeral>
+    ensures { result ≡ factor_of word.now }
+{
+    let Ok(x) = read_numeral(word) else {
+        return None;
+    };
+    let mut line = Line::new();
+    show_numeral(&x, &mut line);
+    if line.bytes() == word { Some(x) } else { None }
+}
+
+#[tactic(auto, unfolding(crate::specs::Reading::legs_from))]
+fn read_legs(mut pieces: Words) -> Option<LegSet>
+    ensures { result ≡ legs_from 0 pieces.entry }
+{
+    let mut set = LegSet::empty();
+    while let Some(piece) = pieces.next() {
+        let leg = read_number(piece, 13)?;
+        if leg == 0 {
+            return None;
+        }
+        set = set.union(LegSet::one(leg as u8));
+    }
+    Some(set)
+}
+
+/// A set of legs, which rise.
+pub(crate) fn read_set(word: &[u8]) -> Option<LegSet>
+    ensures { result ≡ set_of word.now }
+{
+    let set = read_legs(Words::pieces(word, b'+'))?;
+    let mut line = Line::new();
+    push_set(set, &mut line);
+    if line.bytes() == word {
+        Some(set)
+    } else {
+        None
+    }
+}
+
+pub(crate) fn next_set(words: &mut Words) -> Option<LegSet>
+    ensures { Scans (word_by set_of words.old) result words.new }
+{
+    read_set(words.next()?)
+}
+
+/// A field by its name.
+pub(crate) fn read_field(particles: &List<Particle>, word: &[u8]) -> Result<u16, LineFault>
+    requires { length particles.now ≤ 32768 }
+    ensures { Gives (named particles.now word.now) result }
+{
+    if Name::read(word).is_none() {
+        return Err(LineFault::Bad(AsmKind::Grammar));
+    }
+    match field_named(particles.as_slice(), word) {
+        Some(field) => Ok(field),
+        None => Err(LineFault::Bad(AsmKind::Name)),
+    }
+}
