@@ -1,4 +1,5 @@
 pub mod FewRows
+pub mod FirstFields
 pub mod FlowLaws
 pub mod FlowsAgain
 pub mod Found

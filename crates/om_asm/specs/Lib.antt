@@ -1,5 +1,6 @@
 pub mod BranchEquality
 pub mod BranchLists
+pub mod Fields
 pub mod Flows
 pub mod InRange
 pub mod Instrs

@@ -48,8 +48,8 @@ with_first (Some line) lines = words_of line ∷ lines
 
 -- what is kept of the rest of a text: where no whole line is in front there is none, and the number of the next line fits
 abbrev pub AreLines : ℕ → Option (List ℕ) → List ℕ → Type 0
-AreLines number None rest = (number + length rest < 2 ^ 64) × (lines_of rest ≡ cut_line rest)
-AreLines number (Some line) rest = number + 1 + length rest < 2 ^ 64
+AreLines number None rest = (number + length rest < 2 ^ 32) × (lines_of rest ≡ cut_line rest)
+AreLines number (Some line) rest = number + 1 + length rest < 2 ^ 32
 
 -- the place behind a line with words
 abbrev pub Advances : At → At → Type 0

@@ -26,9 +26,9 @@ Gives said (Ok x) = said ≡ Ok x
 Gives said (Err lines.Memory) = Unit {0}
 Gives said (Err (lines.Bad kind)) = said ≡ Err kind
 
--- a fault of a line with its number; any answer may be want of memory
+-- a fault of a line, with its number
 abbrev pub IsAtLine : LineFault → ℕ → AsmFault → Type 0
-IsAtLine fault number faults.Memory = Unit {0}
+IsAtLine fault number faults.Memory = fault ≡ lines.Memory
 IsAtLine fault number (faults.Bad line kind) = (fault ≡ lines.Bad kind) × (line ≡ number)
 
 -- what a reader of lines answers, and where it stops, is what the lines say; any answer may be want of memory

@@ -8,6 +8,7 @@ ghost use Rattle.om_asm.specs.Flows.{flow_line};
 ghost use Rattle.om_asm.specs.Program.{particles_at, rows_at};
 
 use crate::fault::{AsmFault, AsmKind, LineFault};
+use crate::fields::Fields;
 use crate::lines::{Lines, Words};
 use crate::flow_line::read_flow_line;
 use crate::field_lines::{read_den_line, read_leg_line};
@@ -53,8 +54,7 @@ impl LineKind for Particles {
 
 #[derive(Drop)]
 struct Vertices<'a> {
-    particles: &'a List<Particle>,
-    ghost few: { length particles.now ≤ 32768 },
+    fields: &'a Fields<'a>,
 }
 
 impl LineKind for Vertices<'_> {
@@ -62,21 +62,20 @@ impl LineKind for Vertices<'_> {
 
     ghost starts = { λ _ _ w. bytes_eq w (codes "vertex") };
 
-    ghost row_of = { λ kind _ words. vertex_row kind.particles.now words };
+    ghost row_of = { λ kind _ words. vertex_row kind.fields.now words };
 
     fn begins(&self, _count: usize, word: &[u8]) -> bool {
         word == VERTEX
     }
 
     fn read(&self, alloc: Global, _word: &[u8], words: Words) -> Result<Vertex, LineFault> {
-        read_vertex_line(alloc, self.particles, words)
+        read_vertex_line(alloc, self.fields, words)
     }
 }
 
 #[derive(Drop)]
 struct Legs<'a> {
-    particles: &'a List<Particle>,
-    ghost few: { length particles.now ≤ 32768 },
+    fields: &'a Fields<'a>,
 }
 
 impl LineKind for Legs<'_> {
@@ -84,14 +83,14 @@ impl LineKind for Legs<'_> {
 
     ghost starts = { λ _ _ w. bytes_eq w (codes "leg") };
 
-    ghost row_of = { λ kind _ words. leg_row kind.particles.now words };
+    ghost row_of = { λ kind _ words. leg_row kind.fields.now words };
 
     fn begins(&self, _count: usize, word: &[u8]) -> bool {
         word == LEG
     }
 
     fn read(&self, _alloc: Global, _word: &[u8], words: Words) -> Result<u16, LineFault> {
-        read_leg_line(self.particles, words)
+        read_leg_line(self.fields, words)
     }
 }
 
@@ -119,8 +118,7 @@ impl LineKind for Flows {
 
 #[derive(Drop)]
 struct Dens<'a> {
-    particles: &'a List<Particle>,
-    ghost few: { length particles.now ≤ 32768 },
+    fields: &'a Fields<'a>,
 }
 
 impl LineKind for Dens<'_> {
@@ -128,14 +126,14 @@ impl LineKind for Dens<'_> {
 
     ghost starts = { λ _ _ w. bytes_eq w (codes "den") };
 
-    ghost row_of = { λ kind _ words. den_row kind.particles.now words };
+    ghost row_of = { λ kind _ words. den_row kind.fields.now words };
 
     fn begins(&self, _count: usize, word: &[u8]) -> bool {
         word == DEN
     }
 
     fn read(&self, _alloc: Global, _word: &[u8], words: Words) -> Result<Den, LineFault> {
-        read_den_line(self.particles, words)
+        read_den_line(self.fields, words)
     }
 }
 
@@ -149,24 +147,22 @@ pub(crate) fn read_particles(alloc: Global, lines: &mut Lines) -> Result<List<Pa
 
 pub(crate) fn read_vertices(
     alloc: Global,
-    particles: &List<Particle>,
+    fields: &Fields,
     lines: &mut Lines,
 ) -> Result<List<Vertex>, AsmFault>
-    requires { length particles.now ≤ 32768 }
-    ensures { GivesAt (rows_at (codes "vertex") (vertex_row particles.now) lines.old) result lines.new }
+    ensures { GivesAt (rows_at (codes "vertex") (vertex_row fields.now) lines.old) result lines.new }
 {
-    read_list(alloc, &Vertices { particles }, lines)
+    read_list(alloc, &Vertices { fields }, lines)
 }
 
 pub(crate) fn read_legs(
     alloc: Global,
-    particles: &List<Particle>,
+    fields: &Fields,
     lines: &mut Lines,
 ) -> Result<List<u16>, AsmFault>
-    requires { length particles.now ≤ 32768 }
-    ensures { GivesAt (rows_at (codes "leg") (leg_row particles.now) lines.old) result lines.new }
+    ensures { GivesAt (rows_at (codes "leg") (leg_row fields.now) lines.old) result lines.new }
 {
-    read_list(alloc, &Legs { particles }, lines)
+    read_list(alloc, &Legs { fields }, lines)
 }
 
 pub(crate) fn read_flows(alloc: Global, lines: &mut Lines) -> Result<List<Flow>, AsmFault>
@@ -177,11 +173,10 @@ pub(crate) fn read_flows(alloc: Global, lines: &mut Lines) -> Result<List<Flow>,
 
 pub(crate) fn read_dens(
     alloc: Global,
-    particles: &List<Particle>,
+    fields: &Fields,
     lines: &mut Lines,
 ) -> Result<List<Den>, AsmFault>
-    requires { length particles.now ≤ 32768 }
-    ensures { GivesAt (rows_at (codes "den") (den_row particles.now) lines.old) result lines.new }
+    ensures { GivesAt (rows_at (codes "den") (den_row fields.now) lines.old) result lines.new }
 {
-    read_list(alloc, &Dens { particles }, lines)
+    read_list(alloc, &Dens { fields }, lines)
 }

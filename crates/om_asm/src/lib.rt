@@ -3,6 +3,7 @@
 
 mod fault;
 mod field_lines;
+mod fields;
 mod flow_line;
 mod groups;
 mod head_lines;

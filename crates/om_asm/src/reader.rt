@@ -1,5 +1,5 @@
 //! Reading the text of a code.
-ghost use Rattle.std.specs.Prelude.{◌≡◌, ◌≤◌, length, Ok, IfOk};
+ghost use Rattle.std.specs.Prelude.{◌≡◌, ◌<◌, ◌^◌, length, Ok, IfOk};
 ghost use Rattle.om_asm.specs.InRange.{CodeInRange};
 ghost use Rattle.om_program_text.specs.ProgramText.{program_text};
 ghost use Rattle.om_code.specs.declared.code.Code.{Code as CodeOf};
@@ -8,6 +8,7 @@ ghost use Rattle.om_asm.specs.Program.{process_at, program_at, program_of};
 ghost use Rattle.om_asm.specs.Rows.{GivesAt, GivesNothing};
 
 use crate::fault::AsmFault;
+use crate::fields::Fields;
 use crate::groups::{read_dens, read_flows, read_legs, read_particles, read_vertices};
 use crate::head_lines::{read_end, read_model_name, read_slots, read_version};
 use crate::instr_groups::read_instrs;
@@ -15,7 +16,7 @@ use crate::lines::Lines;
 use crate::slots::number_of_slots;
 use om_code::{Code, Den};
 use om_colour::Flow;
-use om_model::{Model, Particle};
+use om_model::Model;
 use om_ring::List;
 use std::alloc::Global;
 
@@ -30,15 +31,14 @@ struct Process {
 #[tactic(auto, unfolding(crate::specs::Program::process_at))]
 fn read_process(
     alloc: Global,
-    particles: &List<Particle>,
+    fields: &Fields,
     lines: &mut Lines,
 ) -> Result<Process, AsmFault>
-    requires { length particles.now ≤ 32768 }
-    ensures { GivesAt (process_at particles.now lines.old) result lines.new }
+    ensures { GivesAt (process_at fields.now lines.old) result lines.new }
 {
-    let legs = read_legs(alloc, particles, lines)?;
+    let legs = read_legs(alloc, fields, lines)?;
     let flows = read_flows(alloc, lines)?;
-    let dens = read_dens(alloc, particles, lines)?;
+    let dens = read_dens(alloc, fields, lines)?;
     Ok(Process { legs, flows, dens })
 }
 
@@ -49,14 +49,15 @@ fn read_program(alloc: Global, lines: &mut Lines) -> Result<Code, AsmFault>
     let version = read_version(lines)?;
     let name = read_model_name(lines)?;
     let particles = read_particles(alloc, lines)?;
-    let vertices = read_vertices(alloc, &particles, lines)?;
-    let Process { legs, flows, dens } = read_process(alloc, &particles, lines)?;
+    let Ok(fields) = Fields::of(alloc, &particles) else {
+        return Err(AsmFault::Memory);
+    };
+    let vertices = read_vertices(alloc, &fields, lines)?;
+    let Process { legs, flows, dens } = read_process(alloc, &fields, lines)?;
     let slots = read_slots(version, lines)?;
     let instrs = read_instrs(alloc, version, lines)?;
     read_end(lines)?;
-    let Some(slots) = number_of_slots(version, slots, instrs.as_slice()) else {
-        return Err(AsmFault::Memory);
-    };
+    let slots = number_of_slots(version, slots, instrs.as_slice());
     Ok(Code {
         version,
         model: Model {
@@ -77,9 +78,9 @@ fn read_program(alloc: Global, lines: &mut Lines) -> Result<Code, AsmFault>
 /// # Errors
 ///
 /// The first line that is in no program text is `Bad`: `Name` where it has the form and names a field that no particle
-/// line above it has, else `Grammar`. Where a call of the allocator fails the answer is `Memory`, which is also given
-/// where the number of the bad line is 2^32 or more.
+/// line above it has, else `Grammar`. `Memory` where a call of the allocator fails.
 pub fn read_code(alloc: Global, text: &[u8]) -> Result<Code, AsmFault>
+    requires { length text.now < 2 ^ 31 }
     // What is read is the text of the code, and the code is plain.
     ensures found { IfOk result (λ c. IsPlain c × (text.now ≡ program_text c)) }
     // The text of a plain code is read as the code, unless memory runs out.

@@ -10,11 +10,12 @@ ghost use Rattle.om_asm.specs.Reading.{product_of};
 ghost use Rattle.om_asm.specs.Rows.{Gives, formed};
 
 use crate::fault::{AsmKind, LineFault};
+use crate::fields::Fields;
 use crate::lines::Words;
 use crate::numbers::read_small;
 use crate::particle_line::read_product;
 use om_lorentz::Structure;
-use om_model::{Name, Particle, Product, Vertex, field_named, structure_of};
+use om_model::{Name, Product, Vertex, structure_of};
 use om_ring::List;
 use std::alloc::Global;
 
@@ -35,21 +36,19 @@ fn next_order(words: &mut Words) -> Option<u8>
     read_small(words.next()?)
 }
 
-fn read_slot(particles: &List<Particle>, word: &[u8]) -> Option<Slot>
-    requires { length particles.now ≤ 32768 }
-    ensures { result ≡ slot_of particles.now word.now }
+fn read_slot(fields: &Fields, word: &[u8]) -> Option<Slot>
+    ensures { result ≡ slot_of fields.now word.now }
 {
     if Name::read(word).is_none() {
         return None;
     }
-    Some(field_named(particles.as_slice(), word))
+    Some(fields.named(word))
 }
 
-fn next_slot(particles: &List<Particle>, words: &mut Words) -> Option<Slot>
-    requires { length particles.now ≤ 32768 }
-    ensures { Scans (word_by (slot_of particles.now) words.old) result words.new }
+fn next_slot(fields: &Fields, words: &mut Words) -> Option<Slot>
+    ensures { Scans (word_by (slot_of fields.now) words.old) result words.new }
 {
-    read_slot(particles, words.next()?)
+    read_slot(fields, words.next()?)
 }
 
 fn take_colon(words: &mut Words) -> Option<()>
@@ -64,15 +63,14 @@ fn take_colon(words: &mut Words) -> Option<()>
 
 // A colon, or a fourth slot and a colon.
 #[tactic(auto, unfolding(crate::specs::Slots::fourth_slot))]
-fn next_fourth(particles: &List<Particle>, words: &mut Words) -> Option<Option<Slot>>
-    requires { length particles.now ≤ 32768 }
-    ensures { Scans (fourth_slot particles.now words.old) result words.new }
+fn next_fourth(fields: &Fields, words: &mut Words) -> Option<Option<Slot>>
+    ensures { Scans (fourth_slot fields.now words.old) result words.new }
 {
     let word = words.next()?;
     if word == COLON {
         return Some(None);
     }
-    let slot = read_slot(particles, word)?;
+    let slot = read_slot(fields, word)?;
     take_colon(words)?;
     Some(Some(slot))
 }
@@ -113,11 +111,10 @@ fn read_products(alloc: Global, mut words: Words) -> Result<List<Product>, LineF
 #[tactic(auto, unfolding(crate::specs::Vertices::vertex_row))]
 pub(crate) fn read_vertex_line(
     alloc: Global,
-    particles: &List<Particle>,
+    fields: &Fields,
     mut words: Words,
 ) -> Result<Vertex, LineFault>
-    requires { length particles.now ≤ 32768 }
-    ensures { Gives (vertex_row particles.now words.entry) result }
+    ensures { Gives (vertex_row fields.now words.entry) result }
 {
     let Some(structure) = next_structure(&mut words) else {
         return Err(LineFault::Bad(AsmKind::Grammar));
@@ -125,16 +122,16 @@ pub(crate) fn read_vertex_line(
     let Some(order) = next_order(&mut words) else {
         return Err(LineFault::Bad(AsmKind::Grammar));
     };
-    let Some(a) = next_slot(particles, &mut words) else {
+    let Some(a) = next_slot(fields, &mut words) else {
         return Err(LineFault::Bad(AsmKind::Grammar));
     };
-    let Some(b) = next_slot(particles, &mut words) else {
+    let Some(b) = next_slot(fields, &mut words) else {
         return Err(LineFault::Bad(AsmKind::Grammar));
     };
-    let Some(c) = next_slot(particles, &mut words) else {
+    let Some(c) = next_slot(fields, &mut words) else {
         return Err(LineFault::Bad(AsmKind::Grammar));
     };
-    let Some(d) = next_fourth(particles, &mut words) else {
+    let Some(d) = next_fourth(fields, &mut words) else {
         return Err(LineFault::Bad(AsmKind::Grammar));
     };
     let factors = read_factors(alloc, words)?;

@@ -7,14 +7,15 @@ ghost use Rattle.om_asm.specs.Reading.{name_of, colour_of, factor_of, legs_from,
 ghost use Rattle.om_asm.specs.Rows.{Gives};
 
 use crate::fault::{AsmKind, LineFault};
+use crate::fields::Fields;
 use crate::lines::Words;
 use crate::numbers::read_number;
 use om_program_text::push_set;
 use om_colour::Colour;
 use om_legs::LegSet;
 use om_lorentz::Spin;
-use om_model::{Name, Particle, field_named, spin_of};
-use om_ring::{Line, List, Numeral, read_numeral, show_numeral};
+use om_model::{Name, spin_of};
+use om_ring::{Line, Numeral, read_numeral, show_numeral};
 
 pub(crate) fn read_name(word: &[u8]) -> Option<Name>
     ensures { result ≡ name_of word.now }
@@ -100,14 +101,13 @@ pub(crate) fn next_set(words: &mut Words) -> Option<LegSet>
 }
 
 /// A field by its name.
-pub(crate) fn read_field(particles: &List<Particle>, word: &[u8]) -> Result<u16, LineFault>
-    requires { length particles.now ≤ 32768 }
-    ensures { Gives (named particles.now word.now) result }
+pub(crate) fn read_field(fields: &Fields, word: &[u8]) -> Result<u16, LineFault>
+    ensures { Gives (named fields.now word.now) result }
 {
     if Name::read(word).is_none() {
         return Err(LineFault::Bad(AsmKind::Grammar));
     }
-    match field_named(particles.as_slice(), word) {
+    match fields.named(word) {
         Some(field) => Ok(field),
         None => Err(LineFault::Bad(AsmKind::Name)),
     }

@@ -6,4 +6,4 @@ pub loop-instr-init : goal.loop-instr-init
 loop-instr-init c = sym registers_none
 
 pub loop-instr-preserved : goal.loop-instr-preserved
-loop-instr-preserved c = registers_more c.args.instrs.now c.loop-instr.instr-index c.instr-item.result c.instr-item.result c.loop-instr.most c.in_ok-slots_for.field-0 c.greater-most.result c.loop-instr-test.true c.instr-item.is c.loop-instr.invariant c.in_ok-slots_for.ensures c.greater-most.ensures
+loop-instr-preserved c = registers_more c.args.instrs.now c.loop-instr.instr-index c.instr-item.result c.instr-item.result c.loop-instr.most c.slots_for.result c.greater-most.result c.loop-instr-test.true c.instr-item.is c.loop-instr.invariant c.slots_for.ensures c.greater-most.ensures
