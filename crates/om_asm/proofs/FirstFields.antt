@@ -1,5 +1,6 @@
 -- A map to which the fields of particles are added, one after the other.
-use Rattle.std.proofs.Common.{◌≡◌, ℕ, ◌+◌, ◌*◌, ◌<◌, Bool, true, false, cond, List, [], ◌∷◌, length, get_or, drop, drop-cons, Option, Some, None, refl, sym, ap, subst, ◌∙◌}
+use Rattle.std.proofs.Common.{◌≡◌, ℕ, ◌+◌, ◌*◌, ◌<◌, ◌≤◌, Bool, true, false, cond, List, [], ◌∷◌, length, get_or, drop, Option, Some, None, refl, sym, ap, ap₂, subst, ◌∙◌}
+use Rattle.std.proofs.lemmas.List.{drop_more, drop_all}
 use Rattle.std.specs.Prelude.{is_some}
 use Rattle.std.specs.Str.{bytes_eq}
 use Rattle.std.specs.Ordering.{nat_cmp}
@@ -19,6 +20,10 @@ or_nothing (Some f) = refl
 or_there : (o later : Option ℕ) → is_some o ≡ true → o ≡ or_else o later
 or_there None later h = absurd cc
 or_there (Some f) later h = refl
+
+pub not_there : (o : Option ℕ) (there : Bool) → there ≡ is_some o → there ≡ false → o ≡ None
+not_there None there e f = refl
+not_there (Some x) there e f = cc
 
 abbrev Names : Type 0
 Names = BTreeMap (Bor (List ℕ)) ℕ
@@ -60,13 +65,13 @@ unfolding field_from
 field_head row p ps q = refl
 
 -- the names of one more particle are in
-pub particle_in : (ps : List Particle) (row : ℕ) (d p : Particle) (q : List ℕ) (before between after total : Option ℕ) → row < length ps → p ≡ get_or ps row d
-    → between ≡ or_else before (where_named q p.name (2 * row)) → after ≡ or_else between (where_named q p.anti (2 * row + 1))
+pub particle_in : (ps : List Particle) (row : ℕ) (d p : Particle) (q : List ℕ) (name anti : List ℕ) (before between after total : Option ℕ) → row < length ps → p ≡ get_or ps row d → name ≡ p.name → anti ≡ p.anti
+    → between ≡ or_else before (where_named q name (2 * row)) → after ≡ or_else between (where_named q anti (2 * row + 1))
     → or_else before (field_from row (drop row ps) q) ≡ total → or_else after (field_from (row + 1) (drop (row + 1) ps) q) ≡ total
-particle_in ps row d p q before between after total lt at e f h =
+particle_in ps row d p q name anti before between after total lt at n a e f h =
     let rest = drop (row + 1) ps in
-    let split : drop row ps ≡ p ∷ rest = drop-cons d row ps lt ∙ ap (λ (x : Particle). x ∷ rest) (sym at) in
-    ap (λ o. or_else o (field_from (row + 1) rest q)) (f ∙ ap (λ o. or_else o (where_named q p.anti (2 * row + 1))) e)
+    let split : drop row ps ≡ p ∷ rest = drop_more ps row d lt ∙ ap (λ (x : Particle). x ∷ rest) (sym at) in
+    ap (λ o. or_else o (field_from (row + 1) rest q)) (f ∙ ap₂ (λ o (w : List ℕ). or_else o (where_named q w (2 * row + 1))) (e ∙ ap (λ (w : List ℕ). or_else before (where_named q w (2 * row))) n) a)
     ∙ joined before (field_from (row + 1) rest q) (bytes_eq q p.name) (bytes_eq q p.anti) (2 * row) (2 * row + 1)
     ∙ ap (or_else before) (sym (field_head row p rest q))
     ∙ ap (λ (xs : List Particle). or_else before (field_from row xs q)) (sym split) ∙ h
@@ -76,5 +81,5 @@ unfolding field_from
 nothing_left row q = refl
 
 -- all particles are in
-pub particles_in : (ps : List Particle) (row : ℕ) (q : List ℕ) (o total : Option ℕ) → drop row ps ≡ [] → or_else o (field_from row (drop row ps) q) ≡ total → o ≡ total
-particles_in ps row q o total none h = or_nothing o ∙ ap (or_else o) (sym (nothing_left row q)) ∙ ap (λ (xs : List Particle). or_else o (field_from row xs q)) (sym none) ∙ h
+pub particles_in : (ps : List Particle) (row : ℕ) (q : List ℕ) (o total : Option ℕ) → length ps ≤ row → or_else o (field_from row (drop row ps) q) ≡ total → o ≡ total
+particles_in ps row q o total le h = or_nothing o ∙ ap (or_else o) (sym (nothing_left row q)) ∙ ap (λ (xs : List Particle). or_else o (field_from row xs q)) (sym (drop_all row ps le)) ∙ h

@@ -9,6 +9,7 @@ use Rattle.om_asm.specs.Heads.{version_word, keyed, version_of, model_name_of, s
 use Rattle.om_asm.specs.Reading.{name_of}
 use Rattle.om_asm.specs.Rows.{place}
 use Rattle.om_asm.specs.Program.{one_line, line_or_bad, slots_at}
+use Rattle.om_asm.specs.FirstBad.{IsName}
 use Rattle.om_asm.proofs.SpeltLemmas.{same_bytes, spelt_found}
 use Rattle.om_asm.proofs.WordLaws.{bind_some, ended}
 use Rattle.om_asm.proofs.OneLine.{keyed_none}
@@ -43,11 +44,11 @@ version_found words v e =
     let w = version_is k.0 v k.2 in
     (k.1 ∙ ap (λ (u : List ℕ). codes "omega" ∷ u ∷ []) w.0, w.1)
 
-pub name_found : (words : Words) (n : List ℕ) → model_name_of words ≡ Some n → words ≡ model_words n
+pub name_found : (words : Words) (n : List ℕ) → model_name_of words ≡ Some n → (words ≡ model_words n) × IsName n
 name_found words n e =
     let k = keyed_found (codes "model") name_of words n e in
     let w = name_spells k.0 n k.2 in
-    k.1 ∙ ap (λ (u : List ℕ). codes "model" ∷ u ∷ []) (sym w.0)
+    (k.1 ∙ ap (λ (u : List ℕ). codes "model" ∷ u ∷ []) (sym w.0), w.1)
 
 pub slots_line_found : (words : Words) (s : ℕ) → slots_of words ≡ Some s → (words ≡ codes "slots" ∷ decimal s ∷ []) × (s < 2 ^ 32)
 slots_line_found words s e =

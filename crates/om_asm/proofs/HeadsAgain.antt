@@ -20,7 +20,7 @@ ready = Some tt
 literal_again : (key : List ℕ) → literal key key ≡ ready
 literal_again key = ap (λ b. cond b ready None) (bytes_same key key refl)
 
-keyed_again : {A : Type 0} (key : List ℕ) (read : List ℕ → Option A) (w : List ℕ) (x : A) → read w ≡ Some x → keyed key read (key ∷ w ∷ []) ≡ Some x
+pub keyed_again : {A : Type 0} (key : List ℕ) (read : List ℕ → Option A) (w : List ℕ) (x : A) → read w ≡ Some x → keyed key read (key ∷ w ∷ []) ≡ Some x
 unfolding keyed
 keyed_again key read w x e =
     ap (λ o. o >>= λ k. word_by read k.1 >>= λ y. no_more y.1 >>= λ _. Some y.0) (word_again (literal key) key tt (w ∷ []) (literal_again key))
@@ -56,7 +56,7 @@ slots_again version slots number ls h = by (eqb version 1) h
 abbrev pub finished : Result (Unit {0}) BadLine
 finished = Ok tt
 
-end_of_again : end_of end_words ≡ ready
+pub end_of_again : end_of end_words ≡ ready
 unfolding end_of
 end_of_again = refl
 

@@ -9,6 +9,7 @@ use Rattle.om_code.specs.Plain.{IsPlace, IsPlainInstr, ArePlaces, IsLoadSlot, pa
 use Rattle.om_asm.specs.declared.instr_line.Joint.{Joint}
 use Rattle.om_program_text.specs.ProgramText.{Words, branch_words, joint_words, instr_words, load_words}
 use Rattle.om_program_text.specs.Words.{place_word, sign_word}
+use Rattle.om_asm.specs.InRange.{InstrInRange}
 use Rattle.om_asm.specs.Lines.{◌>>=◌, word_by, no_more}
 use Rattle.om_asm.specs.Spelt.{place_of, leg_of, number_of}
 use Rattle.om_asm.specs.BranchLists.{two_nodes, three_nodes, four_nodes}
@@ -18,7 +19,7 @@ use Rattle.om_asm.proofs.WordLaws.{bind_some, took, put, ended, place_law, numbe
 
 -- ---- props
 
-pub prop_found : (version : ℕ) (words : Words) (i : Instr) → prop_of words ≡ Some i → (codes "prop" ∷ words ≡ instr_words version i) × IsPlainInstr version i × (part_of i ≡ 1)
+pub prop_found : (version : ℕ) (words : Words) (i : Instr) → prop_of words ≡ Some i → (codes "prop" ∷ words ≡ instr_words version i) × IsPlainInstr version i × (part_of i ≡ 1) × InstrInRange i
 unfolding prop_of
 prop_found version words i e =
     let a = took place_of place_word IsPlace place_law words (λ s. word_by place_of s.1 >>= λ d. no_more d.1 >>= λ _. Some (Prop s.0 d.0)) i e in
@@ -26,7 +27,7 @@ prop_found version words i e =
     let n = ended b.1 (λ _. Some (Prop a.0 b.0)) i b.4 in
     let same : Prop a.0 b.0 ≡ i = cc in
     let whole : words ≡ place_word a.0 ∷ place_word b.0 ∷ [] = a.2 ∙ ap (λ (ws : Words). place_word a.0 ∷ ws) (b.2 ∙ ap (λ (ws : Words). place_word b.0 ∷ ws) n.0) in
-    subst (λ (j : Instr). (codes "prop" ∷ words ≡ instr_words version j) × IsPlainInstr version j × (part_of j ≡ 1)) same (ap (λ (ws : Words). codes "prop" ∷ ws) whole, (a.3, b.3), refl)
+    subst (λ (j : Instr). (codes "prop" ∷ words ≡ instr_words version j) × IsPlainInstr version j × (part_of j ≡ 1) × InstrInRange j) same (ap (λ (ws : Words). codes "prop" ∷ ws) whole, (a.3, b.3), refl, tt)
 
 pub prop_again : (slot den : ℕ) → IsPlace slot → IsPlace den → prop_of (place_word slot ∷ place_word den ∷ []) ≡ Some (Prop slot den)
 unfolding prop_of
@@ -163,7 +164,7 @@ guarded : {A : Type 0} (b : Bool) (x y : A) → cond b (Some x) None ≡ Some y 
 guarded true x y e = (refl, cc)
 guarded false x y e = absurd cc
 
-pub fuse_found : (version : ℕ) (words : Words) (i : Instr) → fuse_of words ≡ Some i → (codes "fuse" ∷ words ≡ instr_words version i) × IsPlainInstr version i × (part_of i ≡ 1)
+pub fuse_found : (version : ℕ) (words : Words) (i : Instr) → fuse_of words ≡ Some i → (codes "fuse" ∷ words ≡ instr_words version i) × IsPlainInstr version i × (part_of i ≡ 1) × InstrInRange i
 unfolding fuse_of
 fuse_found version words i e =
     let a = bind_some (joint_of words) (λ j. cond (leb j.branches.count 3) (Some (Fuse j.to j.minus j.vertex j.choice j.branches)) None) i e in
@@ -171,14 +172,14 @@ fuse_found version words i e =
     let g = guarded (leb j.branches.count 3) (Fuse j.to j.minus j.vertex j.choice j.branches) i a.2 in
     let f = joint_found words j a.1 in
     let few = at_most j.branches.count (leb j.branches.count 3) refl g.0 in
-    subst (λ (k : Instr). (codes "fuse" ∷ words ≡ instr_words version k) × IsPlainInstr version k × (part_of k ≡ 1)) g.1
-    (ap (λ (ws : Words). codes "fuse" ∷ ws) f.0, record { to_place = f.1.to_place; vertex_place = f.1.vertex_place; most = few; places = f.1.nodes.places }, refl)
+    subst (λ (k : Instr). (codes "fuse" ∷ words ≡ instr_words version k) × IsPlainInstr version k × (part_of k ≡ 1) × InstrInRange k) g.1
+    (ap (λ (ws : Words). codes "fuse" ∷ ws) f.0, record { to_place = f.1.to_place; vertex_place = f.1.vertex_place; most = few; places = f.1.nodes.places }, refl, (f.1.choice, f.1.nodes.length_four))
 
 at_least : (n : ℕ) (b : Bool) → leb 3 n ≡ b → b ≡ true → 3 ≤ n
 at_least n true e f = grind (arith, nat_tests)
 at_least n false e f = cc
 
-pub key_found : (version : ℕ) (words : Words) (i : Instr) → key_of words ≡ Some i → (codes "key" ∷ words ≡ instr_words version i) × IsPlainInstr version i × (part_of i ≡ 2)
+pub key_found : (version : ℕ) (words : Words) (i : Instr) → key_of words ≡ Some i → (codes "key" ∷ words ≡ instr_words version i) × IsPlainInstr version i × (part_of i ≡ 2) × InstrInRange i
 unfolding key_of
 key_found version words i e =
     let a = bind_some (joint_of words) (λ j. cond (leb 3 j.branches.count) (Some (Key j.to j.minus j.vertex j.choice j.branches)) None) i e in
@@ -186,20 +187,20 @@ key_found version words i e =
     let g = guarded (leb 3 j.branches.count) (Key j.to j.minus j.vertex j.choice j.branches) i a.2 in
     let f = joint_found words j a.1 in
     let many = at_least j.branches.count (leb 3 j.branches.count) refl g.0 in
-    subst (λ (k : Instr). (codes "key" ∷ words ≡ instr_words version k) × IsPlainInstr version k × (part_of k ≡ 2)) g.1
-    (ap (λ (ws : Words). codes "key" ∷ ws) f.0, record { flow_place = f.1.to_place; vertex_place = f.1.vertex_place; least = many; places = f.1.nodes.places }, refl)
+    subst (λ (k : Instr). (codes "key" ∷ words ≡ instr_words version k) × IsPlainInstr version k × (part_of k ≡ 2) × InstrInRange k) g.1
+    (ap (λ (ws : Words). codes "key" ∷ ws) f.0, record { flow_place = f.1.to_place; vertex_place = f.1.vertex_place; least = many; places = f.1.nodes.places }, refl, (f.1.choice, f.1.nodes.length_four))
 
 load_by : (version : ℕ) (b : Bool) (words : Words) (i : Instr) → eqb version 1 ≡ b
     → cond b (word_by leg_of words >>= λ l. no_more l.1 >>= λ _. Some (Load (l.0 - 1) l.0)) (word_by place_of words >>= λ s. word_by leg_of s.1 >>= λ l. no_more l.1 >>= λ _. Some (Load s.0 l.0)) ≡ Some i
-    → (codes "load" ∷ words ≡ instr_words version i) × IsPlainInstr version i × (part_of i ≡ 0)
+    → (codes "load" ∷ words ≡ instr_words version i) × IsPlainInstr version i × (part_of i ≡ 0) × InstrInRange i
 load_by version true words i t e =
     let a = took leg_of decimal IsLegNumber leg_law words (λ l. no_more l.1 >>= λ _. Some (Load (l.0 - 1) l.0)) i e in
     let n = ended a.1 (λ _. Some (Load (a.0 - 1) a.0)) i a.4 in
     let same : Load (a.0 - 1) a.0 ≡ i = cc in
     let line : load_words version (a.0 - 1) a.0 ≡ codes "load" ∷ decimal a.0 ∷ [] = rw t refl in
     let slot : IsLoadSlot version (a.0 - 1) a.0 = rw t (let h = a.3.0 in omega arith) in
-    subst (λ (k : Instr). (codes "load" ∷ words ≡ instr_words version k) × IsPlainInstr version k × (part_of k ≡ 0)) same
-    (ap (λ (ws : Words). codes "load" ∷ ws) (a.2 ∙ ap (λ (ws : Words). decimal a.0 ∷ ws) n.0) ∙ sym line, (a.3.0, slot), refl)
+    subst (λ (k : Instr). (codes "load" ∷ words ≡ instr_words version k) × IsPlainInstr version k × (part_of k ≡ 0) × InstrInRange k) same
+    (ap (λ (ws : Words). codes "load" ∷ ws) (a.2 ∙ ap (λ (ws : Words). decimal a.0 ∷ ws) n.0) ∙ sym line, (a.3.0, slot), refl, a.3.1)
 load_by version false words i t e =
     let a = took place_of place_word IsPlace place_law words (λ s. word_by leg_of s.1 >>= λ l. no_more l.1 >>= λ _. Some (Load s.0 l.0)) i e in
     let b = took leg_of decimal IsLegNumber leg_law a.1 (λ l. no_more l.1 >>= λ _. Some (Load a.0 l.0)) i a.4 in
@@ -207,9 +208,9 @@ load_by version false words i t e =
     let same : Load a.0 b.0 ≡ i = cc in
     let line : load_words version a.0 b.0 ≡ codes "load" ∷ place_word a.0 ∷ decimal b.0 ∷ [] = rw t refl in
     let slot : IsLoadSlot version a.0 b.0 = rw t a.3 in
-    subst (λ (k : Instr). (codes "load" ∷ words ≡ instr_words version k) × IsPlainInstr version k × (part_of k ≡ 0)) same
-    (ap (λ (ws : Words). codes "load" ∷ ws) (a.2 ∙ ap (λ (ws : Words). place_word a.0 ∷ ws) (b.2 ∙ ap (λ (ws : Words). decimal b.0 ∷ ws) n.0)) ∙ sym line, (b.3.0, slot), refl)
+    subst (λ (k : Instr). (codes "load" ∷ words ≡ instr_words version k) × IsPlainInstr version k × (part_of k ≡ 0) × InstrInRange k) same
+    (ap (λ (ws : Words). codes "load" ∷ ws) (a.2 ∙ ap (λ (ws : Words). place_word a.0 ∷ ws) (b.2 ∙ ap (λ (ws : Words). decimal b.0 ∷ ws) n.0)) ∙ sym line, (b.3.0, slot), refl, b.3.1)
 
-pub load_found : (version : ℕ) (words : Words) (i : Instr) → load_of version words ≡ Some i → (codes "load" ∷ words ≡ instr_words version i) × IsPlainInstr version i × (part_of i ≡ 0)
+pub load_found : (version : ℕ) (words : Words) (i : Instr) → load_of version words ≡ Some i → (codes "load" ∷ words ≡ instr_words version i) × IsPlainInstr version i × (part_of i ≡ 0) × InstrInRange i
 unfolding load_of
 load_found version words i e = load_by version (eqb version 1) words i refl e

@@ -6,6 +6,7 @@ use Rattle.std.proofs.lemmas.List.{map-append}
 use Rattle.om_code.specs.declared.code.Instr.{Instr}
 use Rattle.om_code.specs.Plain.{IsPlainInstr, InParts, part_of}
 use Rattle.om_program_text.specs.ProgramText.{Words, instr_words}
+use Rattle.om_asm.specs.InRange.{InstrInRange}
 use Rattle.om_asm.specs.Lines.{At}
 use Rattle.om_asm.specs.Instrs.{load_of, fuse_of, prop_of, key_of}
 use Rattle.om_asm.specs.Rows.{BadLine, rows_from, behind, formed, is_load, is_fuse, is_step, is_key, load_row, step_row, key_row, instrs_at, ◌>>=◌}
@@ -13,9 +14,9 @@ use Rattle.om_asm.proofs.SpeltLemmas.{same_bytes}
 use Rattle.om_asm.proofs.InstrLaws.{load_found, fuse_found, prop_found, key_found}
 use Rattle.om_asm.proofs.RowLaws.{formed_ok, bind_ok, RowsFound, rows_found}
 
--- a plain instruction of a part
+-- a plain instruction of a part, within its types
 abbrev pub IsOf : ℕ → ℕ → Instr → Type 0
-IsOf version part i = IsPlainInstr version i × (part_of i ≡ part)
+IsOf version part i = IsPlainInstr version i × (part_of i ≡ part) × InstrInRange i
 
 formed_found : {A : Type 0} (o : Option A) (x : A) → formed o ≡ Ok x → o ≡ Some x
 formed_found o x e = formed_ok o x e
@@ -26,20 +27,20 @@ first_is w key ws vs b e = ap (λ (v : List ℕ). v ∷ ws) (same_bytes w key b)
 loads_law : (version : ℕ) → RowsFound (λ _ w. is_load w) (load_row version) (instr_words version) (IsOf version 0)
 loads_law version count w ws x s e =
     let f = load_found version ws x (formed_found (load_of version ws) x e) in
-    (first_is w (codes "load") ws (instr_words version x) s f.0, (f.1, f.2))
+    (first_is w (codes "load") ws (instr_words version x) s f.0, (f.1, f.2, f.3))
 
 keys_law : (version : ℕ) → RowsFound (λ _ w. is_key w) key_row (instr_words version) (IsOf version 2)
 keys_law version count w ws x s e =
     let f = key_found version ws x (formed_found (key_of ws) x e) in
-    (first_is w (codes "key") ws (instr_words version x) s f.0, (f.1, f.2))
+    (first_is w (codes "key") ws (instr_words version x) s f.0, (f.1, f.2, f.3))
 
 step_by : (version : ℕ) (w : List ℕ) (ws : Words) (x : Instr) (a : Bool) → is_fuse w ≡ a → (a || bytes_eq w (codes "prop")) ≡ true → cond a (formed (fuse_of ws)) (formed (prop_of ws)) ≡ Ok x → (w ∷ ws ≡ instr_words version x) × IsOf version 1 x
 step_by version w ws x true a s e =
     let f = fuse_found version ws x (formed_found (fuse_of ws) x e) in
-    (first_is w (codes "fuse") ws (instr_words version x) a f.0, (f.1, f.2))
+    (first_is w (codes "fuse") ws (instr_words version x) a f.0, (f.1, f.2, f.3))
 step_by version w ws x false a s e =
     let f = prop_found version ws x (formed_found (prop_of ws) x e) in
-    (first_is w (codes "prop") ws (instr_words version x) s f.0, (f.1, f.2))
+    (first_is w (codes "prop") ws (instr_words version x) s f.0, (f.1, f.2, f.3))
 
 steps_law : (version : ℕ) → RowsFound (λ _ w. is_step w) step_row (instr_words version) (IsOf version 1)
 steps_law version count w ws x s e = step_by version w ws x (is_fuse w) refl s e
@@ -49,6 +50,10 @@ steps_law version count w ws x s e = step_by version w ws x (is_fuse w) refl s e
 plain_of : (version part : ℕ) (is : List Instr) → AllByRecursion (IsOf version part) is → AllByRecursion (IsPlainInstr version) is
 plain_of version part [] h = tt
 plain_of version part (i ∷ is) h = (h.0.0, plain_of version part is h.1)
+
+within_of : (version part : ℕ) (is : List Instr) → AllByRecursion (IsOf version part) is → AllByRecursion InstrInRange is
+within_of version part [] h = tt
+within_of version part (i ∷ is) h = (h.0.2, within_of version part is h.1)
 
 all_append : {A : Type 0} (P : A → Type 0) (xs ys : List A) → AllByRecursion P xs → AllByRecursion P ys → AllByRecursion P (xs ++ ys)
 all_append P [] ys p q = q
@@ -72,6 +77,7 @@ parts_none part = tt
 pub record AreInstrs (version : ℕ) (lines : List Words) (is : List Instr) (rest : List Words) : Type 0 where
   pub parts : lines ≡ map (instr_words version) is ++ rest
   pub plain : AllByRecursion (IsPlainInstr version) is
+  pub range : AllByRecursion InstrInRange is
   pub order : InParts 0 is
 
 behind_ok : (front : List Instr) (said : Result (List Instr × At) BadLine) (y : List Instr × At) → behind front said ≡ Ok y → (x : List Instr × At) × (said ≡ Ok x) × (y ≡ (front ++ x.0, x.1))
@@ -105,8 +111,10 @@ instrs_found version a y e =
     let keys_in : InParts 2 k.0.0 = subst (InParts 2) none key_order in
     let order = parts_append version 0 l.0.0 (t.0.0 ++ k.0.0) loads.fit (parts_lower 0 1 (t.0.0 ++ k.0.0) (omega arith) (parts_append version 1 t.0.0 k.0.0 steps.fit (parts_lower 1 2 k.0.0 (omega arith) keys_in))) in
     let plain = all_append (IsPlainInstr version) l.0.0 (t.0.0 ++ k.0.0) (plain_of version 0 l.0.0 loads.fit) (all_append (IsPlainInstr version) t.0.0 k.0.0 (plain_of version 1 t.0.0 steps.fit) (plain_of version 2 k.0.0 keys.fit)) in
+    let range = all_append InstrInRange l.0.0 (t.0.0 ++ k.0.0) (within_of version 0 l.0.0 loads.fit) (all_append InstrInRange t.0.0 k.0.0 (within_of version 1 t.0.0 steps.fit) (within_of version 2 k.0.0 keys.fit)) in
     record {
       parts = all ∙ ap₂ (λ (is : List Instr) (ls : List Words). map (instr_words version) is ++ ls) (sym whole) (sym rest);
       plain = subst (AllByRecursion (IsPlainInstr version)) (sym whole) plain;
+      range = subst (AllByRecursion InstrInRange) (sym whole) range;
       order = subst (InParts 0) (sym whole) order;
     }

@@ -1,8 +1,10 @@
 pub mod FewRows
 pub mod FirstFields
+pub mod FirstBadLine
 pub mod FlowLaws
 pub mod FlowsAgain
 pub mod Found
+pub mod GroupOutcomes
 pub mod HeadLaws
 pub mod HeadsAgain
 pub mod InstrAgain
@@ -14,9 +16,13 @@ pub mod ModelLaws
 pub mod ModelWords
 pub mod ModelWordsAgain
 pub mod LinesAgain
+pub mod NamedKinds
+pub mod NumeralsFit
 pub mod OneLine
+pub mod Outcomes
 pub mod ProgramAgain
 pub mod ProgramLaws
+pub mod ProgramOutcomes
 pub mod ReadingLists
 pub mod ReadingRows
 pub mod Registers

@@ -5,13 +5,14 @@ use Rattle.std.specs.List.{AllByRecursion, slice_split, join_with_byte}
 use Rattle.std.specs.Str.{bytes_eq}
 use Rattle.std.proofs.lemmas.Bool.{ltb-true}
 use Rattle.std.proofs.lemmas.Bool.Decides.{nat_tests}
-use Rattle.std.proofs.lemmas.List.{length-map}
+use Rattle.std.proofs.lemmas.List.{length-map, length-set}
 use Rattle.std.proofs.lemmas.List.Splits.{join_with_byte-slice_split, length-slice_split}
 use Rattle.om_ring.specs.declared.numeral.Numeral.{Numeral}
 use Rattle.om_ring.specs.declared.numeral.NumeralFault.{NumeralFault}
 use Rattle.om_ring.specs.Numerals.{numeral_text}
 use Rattle.om_ring.specs.NumeralOf.{numeral_of}
-use Rattle.om_legs.specs.Legs.{legs_of, holds, union, set_of_one}
+use Rattle.om_legs.specs.Legs.{IsLegSet, legs_of, holds, union, set_of_one}
+use Rattle.om_legs.proofs.Operations.{IsLegSet-union}
 use Rattle.om_lorentz.specs.declared.structures.Spin.TheVariants.{Scalar, Dirac, Vector}
 use Rattle.om_lorentz.specs.declared.structures.Structure.TheVariants.{Sss, Ssss, Vss, Vvs, Vvss, Ffs, Ffv, Vvv, Vvvv, Gluon4}
 use Rattle.om_colour.specs.declared.Flow.{Flow}
@@ -29,6 +30,9 @@ use Rattle.om_asm.specs.Spelt.{number_of}
 use Rattle.om_asm.specs.Lists.{list_from}
 use Rattle.om_asm.specs.Reading.{name_of, colour_of, canonical, factor_of, product_of, legs_from, spelled_set, set_of}
 use Rattle.om_asm.specs.Flows.{ends_of_line, ends_from, no_ends, flow_with, flow_of}
+use Rattle.om_asm.specs.InRange.{NumeralFits}
+use Rattle.om_asm.specs.FirstBad.{IsName, IsReadableProduct}
+use Rattle.om_asm.proofs.NumeralsFit.{numeral_fits}
 use Rattle.om_asm.proofs.SpeltLemmas.{same_bytes, number_empty}
 use Rattle.om_asm.proofs.WordLaws.{bind_some, took, ended, number_law}
 
@@ -125,15 +129,19 @@ structure_spells w x e = (
   tt,
 )
 
-pub name_spells : Spells name_of (λ n. n) (λ _. Unit {0})
-name_spells w x e = elim (pick (is_name w) w None x e) [ inl p ↦ (sym p.1, tt) | inr p ↦ absurd (let n = p.1 in cc) ]
+pub name_spells : Spells name_of (λ n. n) IsName
+name_spells w x e = elim (pick (is_name w) w None x e) [ inl p ↦ (sym p.1, ap is_name (sym p.1) ∙ p.0) | inr p ↦ absurd (let n = p.1 in cc) ]
 
 by_canonical : (w : List ℕ) (r : Result Numeral NumeralFault) (x : Numeral) → canonical w r ≡ Some x → numeral_text x ≡ w
 by_canonical w (Ok y) x e = elim (pick (bytes_eq (numeral_text y) w) y None x e) [ inl p ↦ ap numeral_text (sym p.1) ∙ same_bytes (numeral_text y) w p.0 | inr p ↦ absurd (let n = p.1 in cc) ]
 by_canonical w (Err d) x e = absurd cc
 
-pub factor_spells : Spells factor_of numeral_text (λ _. Unit {0})
-factor_spells w x e = (by_canonical w (numeral_of w) x e, tt)
+pub factor_spells : Spells factor_of numeral_text NumeralFits
+factor_spells w x e = (by_canonical w (numeral_of w) x e, by_read w (numeral_of w) x (λ y f. numeral_fits w y f) e)
+  where
+    by_read : (v : List ℕ) (r : Result Numeral NumeralFault) (y : Numeral) → ((z : Numeral) → r ≡ Ok z → NumeralFits z) → canonical v r ≡ Some y → NumeralFits y
+    by_read v (Ok z) y h f = elim (pick (bytes_eq (numeral_text z) v) z None y f) [ inl p ↦ subst NumeralFits p.1 (h z refl) | inr p ↦ absurd (let n = p.1 in cc) ]
+    by_read v (Err d) y h f = absurd cc
 
 module _ {A : Type 0} (read : List ℕ → Option A) (text : A → List ℕ) (fits : A → Type 0) (law : Spells read text fits) (most : ℕ) where
   -- what each word of a list says
@@ -165,13 +173,13 @@ module _ {A : Type 0} (read : List ℕ → Option A) (text : A → List ℕ) (fi
       let same : a.0 ∷ b.0 ≡ xs = let s = b.2 in cc in
       subst (λ (ys : List A). Listed count (w ∷ ws) ys) same (record { texts = ap₂ (λ v (vs : Words). v ∷ vs) word.0 l.texts; fit = (word.1, l.fit); few = omega (arith, l.few) })
 
-pub product_spells : Spells product_of product_word IsProduct
+pub product_spells : Spells product_of product_word IsReadableProduct
 product_spells w x e =
     let pieces = slice_split (λ b. eqb b 42) w in
-    let l = list_found factor_of numeral_text (λ _. Unit {0}) factor_spells 8 0 pieces x (omega arith) e in
+    let l = list_found factor_of numeral_text NumeralFits factor_spells 8 0 pieces x (omega arith) e in
     let texts : length (map numeral_text x) ≡ length x = simp length-map in
     let same : length x ≡ length pieces = sym texts ∙ ap length l.texts in
-    (ap (join_with_byte 42) l.texts ∙ join_with_byte-slice_split 42 w, (omega (arith, same, length-slice_split (λ b. eqb b 42) w), omega (arith, l.few)))
+    (ap (join_with_byte 42) l.texts ∙ join_with_byte-slice_split 42 w, ((omega (arith, same, length-slice_split (λ b. eqb b 42) w), omega (arith, l.few)), l.fit))
 
 -- ---- sets
 
@@ -187,10 +195,26 @@ none_from : (set : ℕ) → number_of 13 [] ≡ None → legs_from set ([] ∷ [
 unfolding legs_from
 none_from set e = ap (λ (o : Option ℕ). elim o as (λ _. Option ℕ) [ None ↦ None | Some leg ↦ cond (eqb leg 0) None (legs_from (union set (set_of_one leg)) []) ]) e
 
-pub set_spells : Spells set_of set_word (λ s. 1 ≤ s)
+legs_within : (set : ℕ) (ws : Words) (s : ℕ) → IsLegSet set → legs_from set ws ≡ Some s → IsLegSet s
+unfolding legs_from
+legs_within set [] s h e = let same : set ≡ s = cc in subst IsLegSet same h
+legs_within set (w ∷ ws) s h e = by (number_of 13 w) (λ leg f. legs_within (union set (set_of_one leg)) ws s (IsLegSet-union set (set_of_one leg)) f) e
+  where
+    by_leg : (b : Bool) (o : Option ℕ) → (o ≡ Some s → IsLegSet s) → cond b None o ≡ Some s → IsLegSet s
+    by_leg true o k f = absurd cc
+    by_leg false o k f = k f
+    by : (o : Option ℕ) → ((leg : ℕ) → legs_from (union set (set_of_one leg)) ws ≡ Some s → IsLegSet s) → elim o as (λ _. Option ℕ) [ None ↦ None | Some leg ↦ cond (eqb leg 0) None (legs_from (union set (set_of_one leg)) ws) ] ≡ Some s → IsLegSet s
+    by None k f = absurd cc
+    by (Some leg) k f = by_leg (eqb leg 0) (legs_from (union set (set_of_one leg)) ws) (k leg) f
+
+-- a set that a text has
+abbrev pub IsReadableSet : ℕ → Type 0
+IsReadableSet s = (1 ≤ s) × IsLegSet s
+
+pub set_spells : Spells set_of set_word IsReadableSet
 set_spells w s e =
     let f = spelled_found w (legs_from 0 (slice_split (λ b. eqb b 43) w)) s e in
-    (f.1, by s f)
+    (f.1, (by s f, legs_within 0 (slice_split (λ b. eqb b 43) w) s (omega arith) f.0))
   where
     by : (t : ℕ) → (legs_from 0 (slice_split (λ b. eqb b 43) w) ≡ Some t) × (set_word t ≡ w) → 1 ≤ t
     by (suc t) g = omega arith
@@ -229,15 +253,26 @@ ends_plain ends (w ∷ ws) more h e =
 zeros_plain : AllByRecursion (λ e. e ≤ 12) no_ends
 zeros_plain = (omega arith, (omega arith, (omega arith, (omega arith, (omega arith, (omega arith, (omega arith, (omega arith, (omega arith, (omega arith, (omega arith, (omega arith, tt))))))))))))
 
-pub flow_spells : Spells flow_of flow_bytes IsPlainFlow
+ends_twelve : (ends : List ℕ) (ws : Words) (more : List ℕ) → length ends ≡ 12 → ends_from ends ws ≡ Some more → length more ≡ 12
+unfolding ends_from
+ends_twelve ends [] more h e = let same : ends ≡ more = cc in ap length (sym same) ∙ h
+ends_twelve ends (w ∷ ws) more h e =
+    let a = bind_some (ends_of_line (slice_split (λ b. eqb b 62) w)) (λ l. ends_from (slice_set ends (l.0 - 1) l.1) ws) more e in
+    ends_twelve (slice_set ends (a.0.0 - 1) a.0.1) ws more (length-set ends (a.0.0 - 1) a.0.1 ∙ h) a.2
+
+-- a flow that a text has
+abbrev pub IsReadableFlow : Flow → Type 0
+IsReadableFlow w = IsPlainFlow w × (length w.ends ≡ 12)
+
+pub flow_spells : Spells flow_of flow_bytes IsReadableFlow
 unfolding flow_of
 flow_spells w x e = elim (pick (bytes_eq w (codes "-")) (flow_with no_ends) _ x e) [
-  | inl p ↦ subst (λ (f : Flow). (flow_bytes f ≡ w) × IsPlainFlow f) p.1 (sym (same_bytes w (codes "-") p.0), zeros_plain)
+  | inl p ↦ subst (λ (f : Flow). (flow_bytes f ≡ w) × IsReadableFlow f) p.1 (sym (same_bytes w (codes "-") p.0), (zeros_plain, refl))
   | inr p ↦
       let a = bind_some (ends_from no_ends (slice_split (λ b. eqb b 44) w)) (λ ends. cond (bytes_eq (flow_bytes (flow_with ends)) w) (Some (flow_with ends)) None) x p.1 in
       let plain = ends_plain no_ends (slice_split (λ b. eqb b 44) w) a.0 zeros_plain a.1 in
       elim (pick (bytes_eq (flow_bytes (flow_with a.0)) w) (flow_with a.0) None x a.2) [
-        | inl q ↦ subst (λ (f : Flow). (flow_bytes f ≡ w) × IsPlainFlow f) q.1 (same_bytes (flow_bytes (flow_with a.0)) w q.0, plain)
+        | inl q ↦ subst (λ (f : Flow). (flow_bytes f ≡ w) × IsReadableFlow f) q.1 (same_bytes (flow_bytes (flow_with a.0)) w q.0, (plain, ends_twelve no_ends (slice_split (λ b. eqb b 44) w) a.0 refl a.1))
         | inr q ↦ absurd (let n = q.1 in cc)
       ]
 ]

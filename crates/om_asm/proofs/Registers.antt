@@ -1,8 +1,26 @@
 -- The greatest register, one instruction after the other.
-use Rattle.std.proofs.Common.{◌≡◌, ℕ, ◌+◌, ◌<◌, max, List, [], ◌∷◌, ◌++◌, length, get_or, take, refl, sym, ap, ◌∙◌, arith}
+use Rattle.std.proofs.Common.{◌≡◌, ℕ, ◌+◌, ◌-◌, ◌^◌, ◌<◌, eqb, Bool, true, false, cond, max, List, [], ◌∷◌, ◌++◌, length, get_or, take, refl, sym, ap, ◌∙◌, arith}
 use Rattle.std.proofs.lemmas.List.{take_more}
 use Rattle.om_code.specs.declared.code.Instr.{Instr}
-use Rattle.om_code.specs.Plain.{registers_named, slots_for}
+use Rattle.std.specs.List.{AllByRecursion}
+use Rattle.om_code.specs.declared.code.Instr.TheVariants.{Load, Fuse, Prop, Key}
+use Rattle.om_code.specs.Plain.{IsPlainInstr, registers_named, slots_for}
+use Rattle.om_asm.specs.InRange.{InstrInRange}
+use Rattle.om_asm.specs.Program.{FillsFew}
+
+by_version : (b : Bool) (slot leg : ℕ) → leg < 256 → cond b (slot + 1 ≡ leg) (slot < 2 ^ 32 - 1) → slot + 1 < 2 ^ 32
+by_version true slot leg h e = omega arith
+by_version false slot leg h e = omega arith
+
+fills_few : (version : ℕ) (i : Instr) → IsPlainInstr version i → InstrInRange i → FillsFew i
+fills_few version (Load slot leg) p r = by_version (eqb version 1) slot leg r p.1
+fills_few version (Fuse slot minus vertex choice branches) p r = omega (arith, p.to_place)
+fills_few version (Prop slot den) p r = omega arith
+fills_few version (Key flow minus vertex choice branches) p r = omega arith
+
+pub all_fill_few : (version : ℕ) (is : List Instr) → AllByRecursion (IsPlainInstr version) is → AllByRecursion InstrInRange is → AllByRecursion FillsFew is
+all_fill_few version [] p r = tt
+all_fill_few version (i ∷ is) p r = (fills_few version i p.0 r.0, all_fill_few version is p.1 r.1)
 
 registers_push : (is : List Instr) (i : Instr) → registers_named (is ++ i ∷ []) ≡ max (registers_named is) (slots_for i)
 unfolding registers_named

@@ -18,10 +18,10 @@ at_line_ok : {A : Type 0} (number : ℕ) (r : Result A AsmKind) (x : A) → at_l
 at_line_ok number (Ok y) x e = cc
 at_line_ok number (Err k) x e = absurd cc
 
-abbrev with_row : {A : Type 0} → A → List A × At → Result (List A × At) BadLine
+abbrev pub with_row : {A : Type 0} → A → List A × At → Result (List A × At) BadLine
 with_row x ys = Ok (x ∷ ys.0, ys.1)
 
-abbrev no_row : {A : Type 0} → At → Result (List A × At) BadLine
+abbrev pub no_row : {A : Type 0} → At → Result (List A × At) BadLine
 no_row a = Ok ([], a)
 
 abbrev done : {B : Type 0} → B → Result B BadLine
@@ -83,7 +83,7 @@ module _ {A : Type 0} (starts : ℕ → List ℕ → Bool) (row_of : List ℕ �
     pub start : starts count w ≡ true
     pub says : row_of w ws ≡ Ok x
 
-  stopped : (count number : ℕ) (rest : List Words) → Stops starts rest → rows_from starts row_of count number rest ≡ no_row (place number rest)
+  pub stopped : (count number : ℕ) (rest : List Words) → Stops starts rest → rows_from starts row_of count number rest ≡ no_row (place number rest)
   unfolding rows_from
   stopped count number [] h = refl
   stopped count number ([] ∷ ls) h = refl

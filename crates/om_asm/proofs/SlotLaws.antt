@@ -5,7 +5,7 @@ use Rattle.std.specs.Str.{bytes_eq}
 use Rattle.std.proofs.lemmas.Bool.Decides.{nat_tests}
 use Rattle.om_ring.specs.declared.numeral.Numeral.{Numeral}
 use Rattle.om_model.specs.declared.model.Particle.{Particle}
-use Rattle.om_code.specs.Plain.{field_name, IsNamed, IsProduct}
+use Rattle.om_code.specs.Plain.{field_name, IsNamed}
 use Rattle.om_program_text.specs.ProgramText.{Words}
 use Rattle.om_program_text.specs.Words.{product_word}
 use Rattle.om_asm.specs.Lines.{◌>>=◌, word_by}
@@ -14,6 +14,7 @@ use Rattle.om_asm.specs.Lists.{list_from}
 use Rattle.om_asm.specs.Reading.{product_of}
 use Rattle.om_asm.specs.Slots.{slot_of, fourth_slot, factors_of}
 use Rattle.om_asm.specs.Vertices.{known_fields}
+use Rattle.om_asm.specs.FirstBad.{IsReadableProduct}
 use Rattle.om_asm.proofs.SpeltLemmas.{same_bytes}
 use Rattle.om_asm.proofs.WordLaws.{bind_some}
 use Rattle.om_asm.proofs.ModelWords.{pick, product_spells, list_found}
@@ -49,7 +50,7 @@ fourth_found ps (w ∷ ws) d e = elim (pick (bytes_eq w (codes ":")) (a_fourth N
 -- one to three products, and nothing else
 pub record AreFactors (words : Words) (factors : List (List Numeral)) : Type 0 where
   pub texts : map product_word factors ≡ words
-  pub products : AllByRecursion IsProduct factors
+  pub products : AllByRecursion IsReadableProduct factors
   pub some : 1 ≤ length factors
   pub few : length factors ≤ 3
 
@@ -66,7 +67,7 @@ unfolding factors_of
 factors_found words factors e =
     let a = bind_some (list_from product_of 3 0 words) (λ fs. cond (eqb (length fs) 0) None (Some fs)) factors e in
     let k = kept (eqb (length a.0) 0) a.0 factors a.2 in
-    let l = list_found product_of product_word IsProduct product_spells 3 0 words a.0 (omega arith) a.1 in
+    let l = list_found product_of product_word IsReadableProduct product_spells 3 0 words a.0 (omega arith) a.1 in
     let some = not_none (length a.0) (eqb (length a.0) 0) refl k.0 in
     subst (λ (fs : List (List Numeral)). AreFactors words fs) k.1 (record { texts = l.texts; products = l.fit; some = some; few = omega (arith, l.few) })
 

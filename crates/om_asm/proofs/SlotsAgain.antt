@@ -7,20 +7,17 @@ use Rattle.om_ring.specs.declared.numeral.Numeral.{Numeral}
 use Rattle.om_model.specs.Name.{is_name}
 use Rattle.om_model.specs.ProcessText.{field_named}
 use Rattle.om_model.specs.declared.model.Particle.{Particle}
-use Rattle.om_code.specs.Plain.{field_name, IsNamed, IsProduct}
+use Rattle.om_code.specs.Plain.{field_name, IsNamed}
 use Rattle.om_program_text.specs.ProgramText.{Words}
 use Rattle.om_program_text.specs.Words.{product_word}
 use Rattle.om_asm.specs.Lines.{◌>>=◌}
 use Rattle.om_asm.specs.Reading.{product_of}
 use Rattle.om_asm.specs.Slots.{slot_of, fourth_slot, factors_of}
 use Rattle.om_asm.proofs.SpeltLemmas.{same_bytes}
-use Rattle.om_asm.proofs.ModelWordsAgain.{Fits, product_again, list_again}
+use Rattle.om_asm.specs.FirstBad.{IsReadableProduct}
+use Rattle.om_asm.proofs.ModelWordsAgain.{ product_again, list_again}
 use Rattle.om_asm.specs.InRange.{ParticleInRange}
 use Rattle.om_asm.proofs.LinesAgain.{means_field}
-
-pub slot_again : (ps : List Particle) (f : ℕ) → AllByRecursion ParticleInRange ps → IsNamed ps f → slot_of ps (field_name ps f) ≡ Some (Some f)
-slot_again ps f h n =
-    ap (λ b. cond b (Some (field_named ps (field_name ps f))) None) (means_field 0 ps (field_name ps f) f h n) ∙ ap (λ (o : Option ℕ). Some o) n
 
 no_colon : (w : List ℕ) → is_name w ≡ true → bytes_eq w (codes ":") ≡ false
 no_colon w h = by (bytes_eq w (codes ":")) refl
@@ -36,14 +33,11 @@ pub no_fourth_again : (ps : List Particle) (rest : Words) → fourth_slot ps (co
 unfolding fourth_slot
 no_fourth_again ps rest = refl
 
-pub fourth_again : (ps : List Particle) (f : ℕ) (rest : Words) → AllByRecursion ParticleInRange ps → IsNamed ps f → fourth_slot ps (field_name ps f ∷ codes ":" ∷ rest) ≡ fourth (Some (Some f)) rest
+pub fourth_said : (ps : List Particle) (w : List ℕ) (rest : Words) → is_name w ≡ true → fourth_slot ps (w ∷ codes ":" ∷ rest) ≡ fourth (Some (field_named ps w)) rest
 unfolding fourth_slot
-fourth_again ps f rest h n =
-    ap (λ b. cond b (fourth None (codes ":" ∷ rest)) (slot_of ps (field_name ps f) >>= λ slot. fourth (Some slot) rest)) (no_colon (field_name ps f) (means_field 0 ps (field_name ps f) f h n))
-    ∙ ap (λ o. o >>= λ slot. fourth (Some slot) rest) (slot_again ps f h n)
-
-abbrev pub IsReadableProduct : List Numeral → Type 0
-IsReadableProduct p = IsProduct p × AllByRecursion Fits p
+fourth_said ps w rest n =
+    ap (λ b. cond b (fourth None (codes ":" ∷ rest)) (slot_of ps w >>= λ slot. fourth (Some slot) rest)) (no_colon w n)
+    ∙ ap (λ b. cond b (Some (field_named ps w)) None >>= λ slot. fourth (Some slot) rest) n
 
 pub factors_again : (fs : List (List Numeral)) → AllByRecursion IsReadableProduct fs → 1 ≤ length fs → length fs ≤ 3 → factors_of (map product_word fs) ≡ Some fs
 unfolding factors_of

@@ -1,11 +1,11 @@
 -- The lines of vertices: what is read is what stands there.
-use Rattle.std.proofs.Common.{◌≡◌, ℕ, ◌<◌, List, ◌∷◌, ◌++◌, map, codes, decimal, Option, Result, Ok, refl, sym, ap, subst, ◌∙◌, arith}
+use Rattle.std.proofs.Common.{◌≡◌, ℕ, ◌<◌, List, [], ◌∷◌, ◌++◌, map, codes, decimal, Option, Result, Ok, refl, sym, ap, subst, ◌∙◌, arith}
 use Rattle.om_ring.specs.declared.numeral.Numeral.{Numeral}
 use Rattle.om_lorentz.specs.declared.structures.Structure.{Structure}
 use Rattle.om_model.specs.Words.{structure_of_word}
 use Rattle.om_model.specs.declared.model.Particle.{Particle}
 use Rattle.om_model.specs.declared.model.Vertex.{Vertex}
-use Rattle.om_code.specs.Plain.{field_name, IsPlainVertex}
+use Rattle.om_code.specs.Plain.{field_name, IsProduct, IsPlainVertex}
 use Rattle.om_asm.specs.declared.fault.AsmKind.{AsmKind}
 use Rattle.om_program_text.specs.ProgramText.{Words, vertex_words}
 use Rattle.om_program_text.specs.Words.{structure_word, product_word}
@@ -16,6 +16,9 @@ use Rattle.om_asm.specs.Slots.{slot_of, fourth_slot, factors_of}
 use Rattle.om_asm.specs.Vertices.{known_fields, vertex_row}
 use Rattle.om_asm.proofs.WordLaws.{number_law}
 use Rattle.om_asm.proofs.RowLaws.{bind_ok, formed_ok}
+use Rattle.std.specs.List.{AllByRecursion}
+use Rattle.om_asm.specs.InRange.{NumeralFits, VertexInRange}
+use Rattle.om_asm.specs.FirstBad.{IsReadableProduct}
 use Rattle.om_asm.proofs.ModelWords.{structure_spells}
 use Rattle.om_asm.proofs.ModelLaws.{said, some_slot, ok_same, SlotWord}
 use Rattle.om_asm.proofs.SlotLaws.{fourth_found, factors_found, fields_found, AreFields, AreFactors}
@@ -23,25 +26,34 @@ use Rattle.om_asm.proofs.SlotLaws.{fourth_found, factors_found, fields_found, Ar
 abbrev a_vertex : Structure → List ℕ → List (List Numeral) → ℕ → Vertex
 a_vertex structure fields factors order = record { structure = structure; fields = fields; factors = factors; order = order }
 
-abbrev from_fields : Structure → ℕ → Option ℕ → Option ℕ → Option ℕ → Option (Option ℕ) → List (List Numeral) → Result Vertex AsmKind
+abbrev pub from_fields : Structure → ℕ → Option ℕ → Option ℕ → Option ℕ → Option (Option ℕ) → List (List Numeral) → Result Vertex AsmKind
 from_fields s o a b c d factors = known_fields a b c d >>= λ fields. Ok (a_vertex s fields factors o)
 
-abbrev from_fourth : List Particle → Structure → ℕ → Option ℕ → Option ℕ → Option ℕ → Words → Result Vertex AsmKind
+abbrev pub from_fourth : List Particle → Structure → ℕ → Option ℕ → Option ℕ → Option ℕ → Words → Result Vertex AsmKind
 from_fourth ps s o a b c words = formed (fourth_slot ps words) >>= λ d. formed (factors_of d.1) >>= λ factors. from_fields s o a b c d.0 factors
 
-abbrev from_third : List Particle → Structure → ℕ → Option ℕ → Option ℕ → Words → Result Vertex AsmKind
+abbrev pub from_third : List Particle → Structure → ℕ → Option ℕ → Option ℕ → Words → Result Vertex AsmKind
 from_third ps s o a b words = formed (word_by (slot_of ps) words) >>= λ c. from_fourth ps s o a b c.0 c.1
 
-abbrev from_second : List Particle → Structure → ℕ → Option ℕ → Words → Result Vertex AsmKind
+abbrev pub from_second : List Particle → Structure → ℕ → Option ℕ → Words → Result Vertex AsmKind
 from_second ps s o a words = formed (word_by (slot_of ps) words) >>= λ b. from_third ps s o a b.0 b.1
 
-abbrev from_first : List Particle → Structure → ℕ → Words → Result Vertex AsmKind
+abbrev pub from_first : List Particle → Structure → ℕ → Words → Result Vertex AsmKind
 from_first ps s o words = formed (word_by (slot_of ps) words) >>= λ a. from_second ps s o a.0 a.1
 
 record SlotsRead (ps : List Particle) (s : Structure) (o : ℕ) (words : Words) (v : Vertex) : Type 0 where
   vertex : v ≡ a_vertex s v.fields v.factors o
   texts : words ≡ map (field_name ps) v.fields ++ codes ":" ∷ map product_word v.factors
   plain : IsPlainVertex ps v
+  factors : AllByRecursion (λ p. AllByRecursion NumeralFits p) v.factors
+
+products_plain : (ps : List (List Numeral)) → AllByRecursion IsReadableProduct ps → AllByRecursion IsProduct ps
+products_plain [] h = tt
+products_plain (p ∷ ps) h = (h.0.0, products_plain ps h.1)
+
+products_fit : (ps : List (List Numeral)) → AllByRecursion IsReadableProduct ps → AllByRecursion (λ p. AllByRecursion NumeralFits p) ps
+products_fit [] h = tt
+products_fit (p ∷ ps) h = (h.0.1, products_fit ps h.1)
 
 by_slots : (ps : List Particle) (s : Structure) (o : ℕ) (words rest : Words) (fields : List ℕ) (factors : List (List Numeral)) (v : Vertex) → a_vertex s fields factors o ≡ v → AreFields ps words fields rest → AreFactors rest factors → SlotsRead ps s o words v
 by_slots ps s o words rest fields factors v same f g =
@@ -49,7 +61,8 @@ by_slots ps s o words rest fields factors v same f g =
     (record {
       vertex = refl;
       texts = f.texts ∙ ap (λ (ws : Words). map (field_name ps) fields ++ codes ":" ∷ ws) (sym g.texts);
-      plain = record { three = f.least; four = f.most; fields = f.named; factor = g.some; factors = g.few; products = g.products };
+      plain = record { three = f.least; four = f.most; fields = f.named; factor = g.some; factors = g.few; products = products_plain factors g.products };
+      factors = products_fit factors g.products;
     })
 
 fourth_read : (ps : List Particle) (s : Structure) (o : ℕ) (wa wb wc : List ℕ) (a b c : Option ℕ) (words : Words) (v : Vertex) → SlotWord ps wa a → SlotWord ps wb b → SlotWord ps wc c → from_fourth ps s o a b c words ≡ Ok v → SlotsRead ps s o (wa ∷ wb ∷ wc ∷ words) v
@@ -73,15 +86,16 @@ slots_read ps s o words v e =
     let c = some_slot ps b.1 (λ c. from_fourth ps s o a.0 b.0 c.0 c.1) v b.5 in
     same_words ps s o words a.2 b.2 c.2 a.1 b.1 c.1 v a.3 b.3 c.3 (fourth_read ps s o a.2 b.2 c.2 a.0 b.0 c.0 c.1 v a.4 b.4 c.4 c.5)
 
-by_head : (ps : List Particle) (s : Structure) (o : ℕ) (v : Vertex) (words rest0 rest1 : Words) → words ≡ structure_word s ∷ rest0 → rest0 ≡ decimal o ∷ rest1 → SlotsRead ps s o rest1 v → (codes "vertex" ∷ words ≡ vertex_words ps v) × IsPlainVertex ps v
-by_head ps s o v words rest0 rest1 e f h =
+by_head : (ps : List Particle) (s : Structure) (o : ℕ) (v : Vertex) (words rest0 rest1 : Words) → o < 256 → words ≡ structure_word s ∷ rest0 → rest0 ≡ decimal o ∷ rest1 → SlotsRead ps s o rest1 v → (codes "vertex" ∷ words ≡ vertex_words ps v) × IsPlainVertex ps v × VertexInRange v
+by_head ps s o v words rest0 rest1 small e f h =
     let line : words ≡ structure_word s ∷ decimal o ∷ (map (field_name ps) v.fields ++ codes ":" ∷ map product_word v.factors) = e ∙ ap (λ (ws : Words). structure_word s ∷ ws) (f ∙ ap (λ (ws : Words). decimal o ∷ ws) h.texts) in
     let named : vertex_words ps (a_vertex s v.fields v.factors o) ≡ vertex_words ps v = ap (vertex_words ps) (sym h.vertex) in
-    (ap (λ (ws : Words). codes "vertex" ∷ ws) line ∙ named, h.plain)
+    let order : o ≡ v.order = sym (ap (λ (z : Vertex). z.order) h.vertex) in
+    (ap (λ (ws : Words). codes "vertex" ∷ ws) line ∙ named, h.plain, record { order = omega arith; factors = h.factors })
 
-pub vertex_found : (ps : List Particle) (words : Words) (v : Vertex) → vertex_row ps words ≡ Ok v → (codes "vertex" ∷ words ≡ vertex_words ps v) × IsPlainVertex ps v
+pub vertex_found : (ps : List Particle) (words : Words) (v : Vertex) → vertex_row ps words ≡ Ok v → (codes "vertex" ∷ words ≡ vertex_words ps v) × IsPlainVertex ps v × VertexInRange v
 unfolding vertex_row
 vertex_found ps words v e =
     let s = said structure_of_word structure_word (λ _. Unit {0}) structure_spells words (λ s. formed (word_by (number_of 256) s.1) >>= λ o. from_first ps s.0 o.0 o.1) v e in
     let o = said (number_of 256) decimal (λ n. n < 256) (number_law 256 (omega arith)).found s.1 (λ o. from_first ps s.0 o.0 o.1) v s.4 in
-    by_head ps s.0 o.0 v words s.1 o.1 s.2 o.2 (slots_read ps s.0 o.0 o.1 v o.4)
+    by_head ps s.0 o.0 v words s.1 o.1 o.3 s.2 o.2 (slots_read ps s.0 o.0 o.1 v o.4)

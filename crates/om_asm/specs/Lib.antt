@@ -1,6 +1,7 @@
 pub mod BranchEquality
 pub mod BranchLists
 pub mod Fields
+pub mod FirstBad
 pub mod Flows
 pub mod InRange
 pub mod Instrs

@@ -1,10 +1,10 @@
 -- What a program text says: its code, or the first bad line.
-use Rattle.std.specs.Prelude.{ℕ, ◌+◌, ◌==◌, nat_lt, if◌then◌else◌, ◌&&◌, List, drop, length, codes, Option, Some, None, Result, Ok, Err}
+use Rattle.std.specs.Prelude.{ℕ, ◌+◌, ◌^◌, ◌<◌, ◌==◌, nat_lt, if◌then◌else◌, ◌&&◌, List, drop, length, codes, Option, Some, None, Result, Ok, Err}
 use Rattle.std.specs.Str.{bytes_eq}
 use Rattle.om_model.specs.declared.model.Particle.{Particle}
 use Rattle.om_code.specs.declared.code.Instr.{Instr}
 use Rattle.om_code.specs.declared.code.Code.{Code}
-use Rattle.om_code.specs.Plain.{registers_named}
+use Rattle.om_code.specs.Plain.{registers_named, slots_for}
 use Rattle.om_asm.specs.declared.fault.AsmKind.{AsmKind}
 use Rattle.om_asm.specs.declared.fault.AsmKind.TheVariants.{Grammar}
 use Rattle.om_program_text.specs.ProgramText.{Words}
@@ -48,6 +48,10 @@ process_at particles a = do
   flows ← rows_at (codes "flow") (λ words. formed (flow_line words)) legs.1
   dens ← rows_at (codes "den") (den_row particles) flows.1
   Ok (record { legs = legs.0; flows = flows.0; dens = dens.0 }, dens.1)
+
+-- the slot that an instruction fills is below 2^32
+abbrev pub FillsFew : Instr → Type 0
+FillsFew i = slots_for i < 2 ^ 32
 
 abbrev pub slots_number : ℕ → ℕ → List Instr → ℕ
 slots_number version slots instrs = if version == 1 then registers_named instrs else slots

@@ -1,4 +1,4 @@
-//! The kinds of lines that are read.
+//! The groups of lines that name particles, vertices, legs, flows and denominators.
 ghost use Rattle.std.specs.Prelude.{◌≡◌, ◌≤◌, ◌&&◌, IfOk, codes, length, nat_lt};
 ghost use Rattle.std.specs.Str.{bytes_eq};
 ghost use Rattle.om_asm.specs.Rows.{Gives, GivesAt, formed};
@@ -53,11 +53,11 @@ impl LineKind for Particles {
 }
 
 #[derive(Drop)]
-struct Vertices<'a> {
-    fields: &'a Fields<'a>,
+struct Vertices<'a, 'p> {
+    fields: &'a Fields<'p>,
 }
 
-impl LineKind for Vertices<'_> {
+impl LineKind for Vertices<'_, '_> {
     type Row = Vertex;
 
     ghost starts = { λ _ _ w. bytes_eq w (codes "vertex") };
@@ -74,11 +74,11 @@ impl LineKind for Vertices<'_> {
 }
 
 #[derive(Drop)]
-struct Legs<'a> {
-    fields: &'a Fields<'a>,
+struct Legs<'a, 'p> {
+    fields: &'a Fields<'p>,
 }
 
-impl LineKind for Legs<'_> {
+impl LineKind for Legs<'_, '_> {
     type Row = u16;
 
     ghost starts = { λ _ _ w. bytes_eq w (codes "leg") };
@@ -117,11 +117,11 @@ impl LineKind for Flows {
 }
 
 #[derive(Drop)]
-struct Dens<'a> {
-    fields: &'a Fields<'a>,
+struct Dens<'a, 'p> {
+    fields: &'a Fields<'p>,
 }
 
-impl LineKind for Dens<'_> {
+impl LineKind for Dens<'_, '_> {
     type Row = Den;
 
     ghost starts = { λ _ _ w. bytes_eq w (codes "den") };
@@ -152,7 +152,7 @@ pub(crate) fn read_vertices(
 ) -> Result<List<Vertex>, AsmFault>
     ensures { GivesAt (rows_at (codes "vertex") (vertex_row fields.now) lines.old) result lines.new }
 {
-    read_list(alloc, &Vertices { fields }, lines)
+    read_list(alloc, &Vertices { fields: &*fields }, lines)
 }
 
 pub(crate) fn read_legs(
@@ -162,7 +162,7 @@ pub(crate) fn read_legs(
 ) -> Result<List<u16>, AsmFault>
     ensures { GivesAt (rows_at (codes "leg") (leg_row fields.now) lines.old) result lines.new }
 {
-    read_list(alloc, &Legs { fields }, lines)
+    read_list(alloc, &Legs { fields: &*fields }, lines)
 }
 
 pub(crate) fn read_flows(alloc: Global, lines: &mut Lines) -> Result<List<Flow>, AsmFault>
@@ -178,5 +178,5 @@ pub(crate) fn read_dens(
 ) -> Result<List<Den>, AsmFault>
     ensures { GivesAt (rows_at (codes "den") (den_row fields.now) lines.old) result lines.new }
 {
-    read_list(alloc, &Dens { fields }, lines)
+    read_list(alloc, &Dens { fields: &*fields }, lines)
 }

@@ -1,7 +1,5 @@
 //! Reading the instructions of a program.
-ghost use Rattle.std.specs.Prelude.{◌≡◌, IfOk};
-ghost use Rattle.std.specs.List.{AllByRecursion};
-ghost use Rattle.om_code.specs.Plain.{IsPlainInstr};
+ghost use Rattle.std.specs.Prelude.{◌≡◌};
 ghost use Rattle.om_asm.specs.Rows.{Gives, GivesAt, formed, instrs_at, is_fuse, is_key, is_load, is_step, key_row, load_row, step_row};
 
 use crate::fault::{AsmFault, AsmKind, LineFault};
@@ -103,8 +101,7 @@ pub(crate) fn read_instrs(
     version: u8,
     lines: &mut Lines,
 ) -> Result<List<Instr>, AsmFault>
-    ensures rows { GivesAt (instrs_at version lines.old) result lines.new }
-    ensures plain { IfOk result (λ is. AllByRecursion (IsPlainInstr version) is) }
+    ensures { GivesAt (instrs_at version lines.old) result lines.new }
 {
     let mut instrs = List::new(alloc);
     read_rows(alloc, &Loads { version }, lines, &mut instrs)?;

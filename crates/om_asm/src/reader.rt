@@ -54,6 +54,7 @@ fn read_program(alloc: Global, lines: &mut Lines) -> Result<Code, AsmFault>
     };
     let vertices = read_vertices(alloc, &fields, lines)?;
     let Process { legs, flows, dens } = read_process(alloc, &fields, lines)?;
+    drop(fields);
     let slots = read_slots(version, lines)?;
     let instrs = read_instrs(alloc, version, lines)?;
     read_end(lines)?;

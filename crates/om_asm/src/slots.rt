@@ -1,14 +1,14 @@
 //! The slots of a code that is read.
 ghost use Rattle.std.specs.Prelude.{◌≡◌, max};
 ghost use Rattle.std.specs.List.{AllByRecursion};
-ghost use Rattle.om_code.specs.Plain.{IsPlainInstr, registers_named, slots_for};
-ghost use Rattle.om_asm.specs.Program.{slots_number};
+ghost use Rattle.om_code.specs.Plain.{registers_named, slots_for};
+ghost use Rattle.om_asm.specs.Program.{FillsFew, slots_number};
 
 use om_code::Instr;
 
 // The greatest register that a load or a fuse fills, or 0.
 fn registers_named(instrs: &[Instr]) -> u32
-    requires { AllByRecursion (IsPlainInstr 1) instrs.now }
+    requires { AllByRecursion FillsFew instrs.now }
     ensures { result ≡ registers_named instrs.now }
 {
     let mut most = 0;
@@ -25,7 +25,7 @@ fn greater(a: u32, b: u32) -> u32
 }
 
 fn slots_for(instr: &Instr) -> u32
-    requires { IsPlainInstr 1 instr.now }
+    requires { FillsFew instr.now }
     ensures { result ≡ slots_for instr.now }
 {
     match instr {
@@ -36,7 +36,7 @@ fn slots_for(instr: &Instr) -> u32
 
 /// The slots of a code: those that its line names, or in version 1 its registers.
 pub(crate) fn number_of_slots(version: u8, slots: u32, instrs: &[Instr]) -> u32
-    requires { AllByRecursion (IsPlainInstr version) instrs.now }
+    requires { AllByRecursion FillsFew instrs.now }
     ensures { result ≡ slots_number version slots instrs.now }
 {
     if version == 1 {
