@@ -158,7 +158,7 @@ steps_behind front = made_of (λ a. rows_from (λ _ w. is_step w) step_row (leng
 keys_behind : (front : List Instr) → Outcomes (λ a. behind front (rows_from (λ _ w. is_key w) key_row (length front) a.number a.lines)) Ends Ends
 keys_behind front = made_of (λ a. rows_from (λ _ w. is_key w) key_row (length front) a.number a.lines) (λ (is : List Instr). front ++ is) Ends Ends (rows_outcome (λ _ w. is_key w) key_row (record { slots = λ _. refl; ends = λ _. refl }) (length front))
 
-abbrev from_steps : List Instr → At → Result (List Instr × At) BadLine
+abbrev pub from_steps : List Instr → At → Result (List Instr × At) BadLine
 from_steps loads a = behind loads (rows_from (λ _ w. is_step w) step_row (length loads) a.number a.lines) >>= λ steps. behind steps.0 (rows_from (λ _ w. is_key w) key_row (length steps.0) steps.1.number steps.1.lines)
 
 pub instrs_outcome : (version : ℕ) → Outcomes (instrs_at version) Ends Ends

@@ -11,6 +11,7 @@ pub mod InstrAgain
 pub mod InstrLaws
 pub mod InstrRows
 pub mod InstrsAgain
+pub mod KindInPlace
 pub mod LineSplits
 pub mod ModelLaws
 pub mod ModelWords
@@ -21,6 +22,7 @@ pub mod NumeralsFit
 pub mod OneLine
 pub mod Outcomes
 pub mod ProgramAgain
+pub mod ProgramKinds
 pub mod ProgramLaws
 pub mod ProgramOutcomes
 pub mod ReadingLists

@@ -47,10 +47,10 @@ flows_outcome = rows_outcome (by_key (codes "flow")) (λ _ words. formed (flow_l
 dens_outcome : (ps : List Particle) → Outcomes (rows_at (codes "den") (den_row ps)) Ends Ends
 dens_outcome ps = rows_outcome (by_key (codes "den")) (λ _ words. den_row ps words) (record { slots = λ _. refl; ends = λ _. refl }) 0
 
-abbrev from_dens : List Particle → List ℕ → List Flow → At → Result (Process × At) BadLine
+abbrev pub from_dens : List Particle → List ℕ → List Flow → At → Result (Process × At) BadLine
 from_dens ps legs flows a = rows_at (codes "den") (den_row ps) a >>= λ dens. Ok (a_process legs flows dens.0, dens.1)
 
-abbrev from_flows : List Particle → List ℕ → At → Result (Process × At) BadLine
+abbrev pub from_flows : List Particle → List ℕ → At → Result (Process × At) BadLine
 from_flows ps legs a = rows_at (codes "flow") (λ words. formed (flow_line words)) a >>= λ flows. from_dens ps legs flows.0 flows.1
 
 process_outcome : (ps : List Particle) → Outcomes (process_at ps) Ends Ends
@@ -65,25 +65,25 @@ process_outcome ps =
 abbrev pub Anything : List Words → Type 0
 Anything ls = Unit {0}
 
-abbrev with_end : Code → At → Result (Code × At) BadLine
+abbrev pub with_end : Code → At → Result (Code × At) BadLine
 with_end c a = one_line end_of a >>= λ e. Ok (c, e.1)
 
-abbrev from_instrs : ℕ → List ℕ → List Particle → List Vertex → Process → ℕ → At → Result (Code × At) BadLine
+abbrev pub from_instrs : ℕ → List ℕ → List Particle → List Vertex → Process → ℕ → At → Result (Code × At) BadLine
 from_instrs version name ps vs p slots a = instrs_at version a >>= λ is. with_end (a_code version name ps vs p slots is.0) is.1
 
-abbrev from_slots : ℕ → List ℕ → List Particle → List Vertex → Process → At → Result (Code × At) BadLine
+abbrev pub from_slots : ℕ → List ℕ → List Particle → List Vertex → Process → At → Result (Code × At) BadLine
 from_slots version name ps vs p a = slots_at version a >>= λ s. from_instrs version name ps vs p s.0 s.1
 
-abbrev from_process : ℕ → List ℕ → List Particle → List Vertex → At → Result (Code × At) BadLine
+abbrev pub from_process : ℕ → List ℕ → List Particle → List Vertex → At → Result (Code × At) BadLine
 from_process version name ps vs a = process_at ps a >>= λ p. from_slots version name ps vs p.0 p.1
 
-abbrev from_vertices : ℕ → List ℕ → List Particle → At → Result (Code × At) BadLine
+abbrev pub from_vertices : ℕ → List ℕ → List Particle → At → Result (Code × At) BadLine
 from_vertices version name ps a = rows_at (codes "vertex") (vertex_row ps) a >>= λ vs. from_process version name ps vs.0 vs.1
 
-abbrev from_particles : ℕ → List ℕ → At → Result (Code × At) BadLine
+abbrev pub from_particles : ℕ → List ℕ → At → Result (Code × At) BadLine
 from_particles version name a = particles_at a >>= λ ps. from_vertices version name ps.0 ps.1
 
-abbrev from_name : ℕ → At → Result (Code × At) BadLine
+abbrev pub from_name : ℕ → At → Result (Code × At) BadLine
 from_name version a = one_line model_name_of a >>= λ n. from_particles version n.0 n.1
 
 -- all lines up to the end, whether others follow or not

@@ -1,6 +1,6 @@
 use Rattle.om_asm.specs.Lines.{lines_of}
 use Rattle.om_asm.proofs.FirstBadLine.{counted, within, begins, breaks}
-use Rattle.om_asm.proofs.NamedKinds.{particle_never, leg_kind, den_kind, vertex_kind}
+use Rattle.om_asm.proofs.ProgramKinds.{kind_is}
 use Rattle.om_asm.proofs.laws.first_is_told.Goals as goal
 
 pub returns : goal.returns
@@ -9,5 +9,5 @@ returns c = λ text line kind e. record {
   within = within (lines_of text) line kind e;
   begins = begins (lines_of text) line kind e;
   breaks = breaks (lines_of text) line kind e;
-  named = ?;
+  named = kind_is (lines_of text) line kind e;
 }
