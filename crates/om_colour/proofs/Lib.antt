@@ -13,6 +13,7 @@ pub mod ChoiceTests
 pub mod Sending
 pub mod Fitting
 pub mod Colours
+pub mod Readings
 pub mod Rows
 pub mod WorkedVertices
 pub mod LegNumbers

@@ -1,5 +1,6 @@
 -- Partial flows of parts that hold different legs fit a choice that sends their colours on.
 use Rattle.std.specs.Prelude.{◌≡◌, ℕ, ◌<◌, Bool, true, ◌≢◌, ◌↔◌, Option, None}
+use Rattle.om_legs.specs.declared.leg_set.TheConstants.{MOST_LEGS}
 use Rattle.om_colour.specs.declared.Colour.{Colour}
 use Rattle.om_colour.specs.declared.Partial.{Partial}
 use Rattle.om_colour.specs.declared.SlotPartials.{SlotPartials}
@@ -9,7 +10,7 @@ use Rattle.om_colour.specs.Partials.{part_at, into_at, LeavesUpwards, StandsIn, 
 -- a partial flow over whose edge lines go as at a leg of colour c, and whose legs lie behind it, as `behind k` says of leg k + 1
 pub record IsPartialBehind (behind : ℕ → Bool) (c : Colour) (o : Option Partial) : Type 0 where
   pub sound : IsSound o
-  pub within : (k : ℕ) → k < 12 → StandsIn o k → behind k ≡ true
+  pub within : (k : ℕ) → k < MOST_LEGS → StandsIn o k → behind k ≡ true
   pub leaves : LeavesUpwards o ↔ (starts_line c ≡ true)
   pub enters : (0 < into_at o) ↔ (ends_line c ≡ true)
 

@@ -1,5 +1,6 @@
 -- The laws of colour lines.
 use Rattle.std.specs.Prelude.{◌≡◌, ℕ, ◌+◌, ◌<◌, ◌≤◌, Bool, true, eqb, count_by, ◌≢◌, ◌⊎◌, ◌↔◌, Some, None, List, length}
+use Rattle.om_legs.specs.declared.leg_set.TheConstants.{MOST_LEGS}
 use Rattle.om_colour.specs.declared.Colour.{Colour}
 use Rattle.om_colour.specs.declared.Colour.TheVariants.{One}
 use Rattle.om_colour.specs.declared.Choice.{Choice}
@@ -11,7 +12,8 @@ use Rattle.om_colour.specs.Lines.Side.{leg, vertex}
 use Rattle.om_colour.specs.Ending.{TakesLine, GivesLine, IsMatched, HasColour, StartsIn, IsApart, AreApart, IsNumbered}
 use Rattle.om_colour.specs.Follow.{follow, partial_of, flow_of}
 use Rattle.om_colour.specs.Choices.{goes_to, SendsOn, colour_at}
-use Rattle.om_colour.specs.Table.{Row, row_of, choice_count, choice_of, coloured_slots, fits_pattern, table}
+use Rattle.om_colour.specs.Table.{Row, row_of, choice_count, choice_of, reading_of, coloured_slots, fits_pattern, table}
+use Rattle.om_colour.specs.Readings.{NamesEachSlot}
 use Rattle.om_colour.specs.Partials.{IsPartialOf, IsFlowOf, FitsOnwards, Fits, leg_partial}
 use Rattle.om_colour.specs.Fitting.{IsPartialBehind, AreBehind}
 
@@ -24,6 +26,12 @@ ChoicesSendOn =
 -- at most one row of the table has the colours of three or four slots
 abbrev pub OneRow : Type 0
 OneRow = (cs : List Colour) → (length cs ≡ 3) ⊎ (length cs ≡ 4) → count_by (fits_pattern (coloured_slots cs)) table ≤ 1
+
+-- each choice of each row is read in an order that names each slot once
+abbrev pub ReadingsNameEachSlot : Type 0
+ReadingsNameEachSlot =
+    (cs : List Colour) → (length cs ≡ 3) ⊎ (length cs ≡ 4) → (r : Row) → row_of cs ≡ Some r → (k : ℕ) → k < choice_count r
+    → NamesEachSlot (length cs) (reading_of r k)
 
 -- where lines match on both sides of an edge, and over it, each line from the side t ends
 abbrev pub EachLineEnds : Type 0
@@ -79,15 +87,15 @@ ComputesFlow = (to : ℕ → ℕ) (beyond : ℕ → Side) → AreApart beyond �
 
 -- a diagram has one flow
 abbrev pub OneFlow : Type 0
-OneFlow = (to : ℕ → ℕ) (beyond : ℕ → Side) (v w : Flow) → length v.ends ≡ 12 → length w.ends ≡ 12 → IsFlowOf to beyond v → IsFlowOf to beyond w → v ≡ w
+OneFlow = (to : ℕ → ℕ) (beyond : ℕ → Side) (v w : Flow) → length v.ends ≡ MOST_LEGS → length w.ends ≡ MOST_LEGS → IsFlowOf to beyond v → IsFlowOf to beyond w → v ≡ w
 
 -- a side has one partial flow
 abbrev pub OnePartial : Type 0
-OnePartial = (t : Side) (p q : Partial) → length p.ends ≡ 12 → length q.ends ≡ 12 → IsPartialOf t (Some p) → IsPartialOf t (Some q) → p ≡ q
+OnePartial = (t : Side) (p q : Partial) → length p.ends ≡ MOST_LEGS → length q.ends ≡ MOST_LEGS → IsPartialOf t (Some p) → IsPartialOf t (Some q) → p ≡ q
 
 -- the partial flow of a leg holds that leg alone
 abbrev pub LegPartialIsBehind : Type 0
-LegPartialIsBehind = (n : ℕ) (c : Colour) → 1 ≤ n → n ≤ 12 → IsPartialBehind (λ k. eqb (k + 1) n) c (Some (leg_partial n c))
+LegPartialIsBehind = (n : ℕ) (c : Colour) → 1 ≤ n → n ≤ MOST_LEGS → IsPartialBehind (λ k. eqb (k + 1) n) c (Some (leg_partial n c))
 
 -- behind a slot past the vertex stands no line
 abbrev pub NothingIsBehind : Type 0

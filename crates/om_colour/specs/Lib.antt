@@ -4,6 +4,7 @@ pub mod Follow
 pub mod Choices
 pub mod Table
 pub mod Partials
+pub mod Readings
 pub mod Fitting
 pub mod Laws
 pub mod Texts

@@ -1,5 +1,6 @@
 -- Colour lines, followed through the vertices of a diagram.
 use Rattle.std.specs.Prelude.{◌≡◌, ℕ, ◌<◌, ◌≤◌, Bool, true, false, cond, eqb, ◌≢◌, ◌⊎◌}
+use Rattle.om_colour.specs.declared.TheConstants.{UPWARDS}
 use Rattle.om_colour.specs.declared.Colour.{Colour}
 use Rattle.om_colour.specs.declared.Colour.TheVariants.{One, Three, AntiThree, Eight}
 
@@ -55,11 +56,11 @@ Line t u k e = Goes k t u e ⊎ Goes k u t e
 abbrev pub LineAt : (ℕ → ℕ) → (ℕ → Side) → ℕ → ℕ → Type 0
 LineAt to beyond k e = (s : ℕ) × IsSlot s × Goes k (beyond s) (vertex to s beyond) e
 
--- the outside of a side is like a leg 13 that starts a line and ends one
+-- the outside of a side is like a leg UPWARDS that starts a line and ends one
 abbrev pub outside : Side
-outside = leg 13 Eight
+outside = leg UPWARDS Eight
 
--- the legs of the side have numbers below 13
+-- the legs of the side have numbers below UPWARDS
 abbrev pub IsInner : Side → Type 0
-IsInner (leg k c) = k < 13
+IsInner (leg k c) = k < UPWARDS
 IsInner (vertex to h beyond) = (s : ℕ) → IsInner (beyond s)

@@ -1,5 +1,7 @@
 -- Partial flows, and what they make of each other at a vertex.
 use Rattle.std.specs.Prelude.{◌≡◌, ℕ, ◌+◌, ◌<◌, ◌≤◌, cond, eqb, ◌&&◌, ◌≢◌, ◌⊎◌, ◌↔◌, Option, Some, None, List, [], ◌∷◌, slice_index}
+use Rattle.om_legs.specs.declared.leg_set.TheConstants.{MOST_LEGS}
+use Rattle.om_colour.specs.declared.TheConstants.{UPWARDS}
 use Rattle.om_colour.specs.declared.Choice.{Choice}
 use Rattle.om_colour.specs.declared.Colour.{Colour}
 use Rattle.om_colour.specs.declared.Partial.{Partial}
@@ -9,7 +11,7 @@ use Rattle.om_colour.specs.Lines.{Side, Goes, Ends, IsSlot, outside, IsInner, Li
 use Rattle.om_colour.specs.Lines.Side.{vertex}
 use Rattle.om_colour.specs.Choices.{goes_to, IsChoice}
 
--- where the line that starts at leg k + 1 ends: a leg, 13 where it leaves upwards, 0 where none starts
+-- where the line that starts at leg k + 1 ends: a leg, UPWARDS where it leaves upwards, 0 where none starts
 abbrev pub end_at : Option Partial → ℕ → ℕ
 end_at None k = 0
 end_at (Some p) k = slice_index p.ends k
@@ -29,20 +31,20 @@ IsEnd x e = (0 < e) × (x ≡ e)
 
 -- the partial flow of the side t: the lines from each leg within t, and the line that enters
 pub record IsPartialOf (t : Side) (o : Option Partial) : Type 0 where
-  pub line : (k e : ℕ) → k < 12 → Goes (k + 1) t outside e ↔ IsEnd (end_at o k) e
+  pub line : (k e : ℕ) → k < MOST_LEGS → Goes (k + 1) t outside e ↔ IsEnd (end_at o k) e
   pub into : (e : ℕ) → Ends t e ↔ IsEnd (into_at o) e
 
 -- the flow of a diagram that is opened at a vertex, with these sides beyond its slots: where its lines end
 abbrev pub IsFlowOf : (ℕ → ℕ) → (ℕ → Side) → Flow → Type 0
-IsFlowOf to beyond w = (k e : ℕ) → k < 12 → LineAt to beyond (k + 1) e ↔ IsEnd (slice_index w.ends k) e
+IsFlowOf to beyond w = (k e : ℕ) → k < MOST_LEGS → LineAt to beyond (k + 1) e ↔ IsEnd (slice_index w.ends k) e
 
 -- the end of a line that goes to slot s, where slot h is open
 abbrev pub target_end : SlotPartials → ℕ → ℕ → ℕ
-target_end q h s = cond (eqb s h) 13 (into_at (part_at q s))
+target_end q h s = cond (eqb s h) UPWARDS (into_at (part_at q s))
 
 -- a line that leaves upwards ends where it ends beyond
 abbrev pub end_through : ℕ → ℕ → ℕ
-end_through e beyond = cond (eqb e 13) beyond e
+end_through e beyond = cond (eqb e UPWARDS) beyond e
 
 -- a, or b where a is 0
 abbrev pub first_of : ℕ → ℕ → ℕ
@@ -78,7 +80,7 @@ merged_end line beyond other k = first_of (end_through (line k) beyond) (other k
 
 -- the partial flow of leg n
 abbrev pub leg_partial : ℕ → Colour → Partial
-leg_partial n c = record { ends = each_leg (λ k. cond (starts_line c && eqb (k + 1) n) 13 0); into = cond (ends_line c) n 0 }
+leg_partial n c = record { ends = each_leg (λ k. cond (starts_line c && eqb (k + 1) n) UPWARDS 0); into = cond (ends_line c) n 0 }
 
 -- the partial flow that leaves a vertex through slot h
 abbrev pub joined : SlotPartials → Choice → ℕ → Partial
@@ -94,24 +96,24 @@ closed q c = record { ends = each_leg (joined_end q c no_hole) }
 
 -- a line leaves upwards
 abbrev pub LeavesUpwards : Option Partial → Type 0
-LeavesUpwards o = (k : ℕ) × (k < 12) × (end_at o k ≡ 13)
+LeavesUpwards o = (k : ℕ) × (k < MOST_LEGS) × (end_at o k ≡ UPWARDS)
 
 -- leg k + 1 is the start or the end of a line
 abbrev pub StandsIn : Option Partial → ℕ → Type 0
-StandsIn o k = (0 < end_at o k) ⊎ (((j : ℕ) × (j < 12) × (end_at o j ≡ k + 1)) ⊎ (into_at o ≡ k + 1))
+StandsIn o k = (0 < end_at o k) ⊎ (((j : ℕ) × (j < MOST_LEGS) × (end_at o j ≡ k + 1)) ⊎ (into_at o ≡ k + 1))
 
--- ends are legs or 13, and nothing is an end twice
+-- ends are legs or UPWARDS, and nothing is an end twice
 pub record IsSound (o : Option Partial) : Type 0 where
-  pub ends : (k : ℕ) → k < 12 → end_at o k ≤ 13
-  pub into : into_at o ≤ 12
-  pub once : (k j : ℕ) → k < 12 → j < 12 → 0 < end_at o k → end_at o k ≡ end_at o j → k ≡ j
-  pub not_into : (k : ℕ) → k < 12 → 0 < into_at o → end_at o k ≢ into_at o
+  pub ends : (k : ℕ) → k < MOST_LEGS → end_at o k ≤ UPWARDS
+  pub into : into_at o ≤ MOST_LEGS
+  pub once : (k j : ℕ) → k < MOST_LEGS → j < MOST_LEGS → 0 < end_at o k → end_at o k ≡ end_at o j → k ≡ j
+  pub not_into : (k : ℕ) → k < MOST_LEGS → 0 < into_at o → end_at o k ≢ into_at o
 
 -- the partial flows fit the choice: no leg stands in two, and over each edge but that of slot h the lines go that the choice sends on
 pub record Fits (q : SlotPartials) (c : Choice) (h : ℕ) : Type 0 where
   pub choice : IsChoice (goes_to c)
   pub sound : (s : ℕ) → IsSlot s → IsSound (part_at q s)
-  pub apart : (s r k : ℕ) → IsSlot s → IsSlot r → r ≢ s → k < 12 → StandsIn (part_at q s) k → StandsIn (part_at q r) k → ⊥
+  pub apart : (s r k : ℕ) → IsSlot s → IsSlot r → r ≢ s → k < MOST_LEGS → StandsIn (part_at q s) k → StandsIn (part_at q r) k → ⊥
   pub leaves : (s : ℕ) → IsSlot s → s ≢ h → LeavesUpwards (part_at q s) ↔ (0 < goes_to c s)
   pub enters : (s : ℕ) → IsSlot s → s ≢ h → (0 < into_at (part_at q s)) ↔ ((r : ℕ) × IsSlot r × (goes_to c r ≡ s))
 
@@ -132,4 +134,4 @@ pub record FitsOnwards (q : SlotPartials) (c : Choice) (h : ℕ) (p : Partial) :
   pub sound : IsSound (Some p)
   pub leaves : LeavesUpwards (Some p) ↔ ((s : ℕ) × IsSlot s × (goes_to c s ≡ h))
   pub enters : (0 < p.into) ↔ (0 < goes_to c h)
-  pub within : (k : ℕ) → k < 12 → StandsIn (Some p) k → (s : ℕ) × IsSlot s × StandsIn (part_at q s) k
+  pub within : (k : ℕ) → k < MOST_LEGS → StandsIn (Some p) k → (s : ℕ) × IsSlot s × StandsIn (part_at q s) k

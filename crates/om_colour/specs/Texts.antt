@@ -1,5 +1,6 @@
 -- The texts of flows and partial flows.
 use Rattle.std.specs.Prelude.{ℕ, ◌+◌, List, [], ◌∷◌, ◌++◌, cond, eqb, flat_map, decimal, codes}
+use Rattle.om_colour.specs.declared.TheConstants.{UPWARDS}
 use Rattle.om_colour.specs.declared.Flow.{Flow}
 use Rattle.om_colour.specs.declared.Partial.{Partial}
 use Rattle.om_colour.specs.declared.texts.Extent.{Extent}
@@ -8,7 +9,7 @@ use Rattle.om_colour.specs.declared.texts.Extent.TheVariants.{Diagram, Side}
 -- what stands for the end of a line: the leg, and nothing where it leaves a side upwards
 abbrev pub end_text : Extent → ℕ → List ℕ
 end_text Diagram e = decimal e
-end_text Side e = cond (eqb e 13) [] (decimal e)
+end_text Side e = cond (eqb e UPWARDS) [] (decimal e)
 
 -- the item `s>t` of a line from leg s
 abbrev pub line_item : Extent → ℕ → ℕ → List ℕ

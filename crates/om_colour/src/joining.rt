@@ -4,7 +4,7 @@ ghost use Rattle.om_colour.specs.Lines.{IsSlot};
 ghost use Rattle.om_colour.specs.Choices.{goes_to};
 ghost use Rattle.om_colour.specs.Partials.{Closes, Fits, FitsOnwards, Joins, all_beyond, closed, each_leg, end_at, end_through, ends_by, first_of, into_at, joined, merged_end, no_hole, part_at};
 
-use crate::{Choice, Flow, Partial, SlotPartials, UPWARDS};
+use crate::{Choice, ENDS, Flow, Partial, SlotPartials, UPWARDS};
 
 /// The partial flow of the side that a vertex and the parts behind its slots make, seen from the slot `hole`,
 /// which is free: a line that a part sends upwards goes on by the choice, into another part or out through
@@ -66,18 +66,18 @@ fn end_into(part: &Option<Partial>) -> u8
 }
 
 // Where the lines of all parts end, when a line that leaves the vertex through slot `s` ends at `beyond[s]`.
-fn joined_ends(slots: &SlotPartials, choice: &Choice, beyond: &[u8; 5]) -> [u8; 12]
+fn joined_ends(slots: &SlotPartials, choice: &Choice, beyond: &[u8; 5]) -> [u8; ENDS]
     requires { (s : ℕ) → IsSlot s → goes_to choice.now s ≤ 4 }
     ensures { result ≡ each_leg (ends_by slots.now choice.now (slice_index beyond.now)) }
 {
-    let fourth = ends_with(&slots.fourth, beyond[choice.to[3] as usize], &[0; 12]);
+    let fourth = ends_with(&slots.fourth, beyond[choice.to[3] as usize], &[0; ENDS]);
     let third = ends_with(&slots.third, beyond[choice.to[2] as usize], &fourth);
     let second = ends_with(&slots.second, beyond[choice.to[1] as usize], &third);
     ends_with(&slots.first, beyond[choice.to[0] as usize], &second)
 }
 
 // The ends of the lines of a part, at `beyond` where they leave it upwards, together with other ends.
-fn ends_with(part: &Option<Partial>, beyond: u8, others: &[u8; 12]) -> [u8; 12]
+fn ends_with(part: &Option<Partial>, beyond: u8, others: &[u8; ENDS]) -> [u8; ENDS]
     ensures { result ≡ each_leg (merged_end (end_at part.now) beyond (slice_index others.now)) }
 {
     match part {
@@ -86,7 +86,7 @@ fn ends_with(part: &Option<Partial>, beyond: u8, others: &[u8; 12]) -> [u8; 12]
     }
 }
 
-fn merged_ends(ends: &[u8; 12], beyond: u8, others: &[u8; 12]) -> [u8; 12]
+fn merged_ends(ends: &[u8; ENDS], beyond: u8, others: &[u8; ENDS]) -> [u8; ENDS]
     ensures { result ≡ each_leg (merged_end (slice_index ends.now) beyond (slice_index others.now)) }
 {
     [

@@ -1,6 +1,6 @@
 //! The laws of colour lines. Each is the contract of a function that does nothing.
 ghost use Rattle.std.specs.Prelude.{◌≡◌, ◌↔◌, IsTrue};
-ghost use Rattle.om_colour.specs.Laws.{ChoicesSendOn, ComputesFlow, ComputesPartial, EachLineEnds, EachLineEndsAt, FollowsLines, JoinedPartialFits, LegHasColour, LegPartialIsBehind, LinesEndOnce, LinesEndOnceAt, NothingIsBehind, OneFlow, OnePartial, OneRow, PartialsFit, SameLinesOverEdge, SameLinesOverVertex, VertexHasColour};
+ghost use Rattle.om_colour.specs.Laws.{ChoicesSendOn, ComputesFlow, ComputesPartial, EachLineEnds, EachLineEndsAt, FollowsLines, JoinedPartialFits, LegHasColour, LegPartialIsBehind, LinesEndOnce, LinesEndOnceAt, NothingIsBehind, OneFlow, OnePartial, OneRow, PartialsFit, ReadingsNameEachSlot, SameLinesOverEdge, SameLinesOverVertex, VertexHasColour};
 ghost use Rattle.om_colour.specs.Order.{flow_order, partial_order};
 
 use crate::{Flow, Partial};
@@ -14,6 +14,11 @@ pub fn choices_send_lines_on()
 /// The colours of three or four slots are in at most one row of the table.
 pub fn one_row_of_table()
     ensures { OneRow }
+{}
+
+/// The order in which a choice of a row of the table reads the slots names each slot once.
+pub fn readings_name_each_slot()
+    ensures { ReadingsNameEachSlot }
 {}
 
 /// Where the choices of the vertices match, each line of a diagram ends.

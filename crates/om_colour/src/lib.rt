@@ -10,8 +10,11 @@
 //! it for the side that a vertex and the parts at all its slots but one make, and [`close`] gives the lines
 //! of a whole diagram, a [`Flow`], from the parts at all slots of one of its vertices.
 //!
-//! Legs have the numbers 1 to 12 and slots the numbers 1 to 4. Choices count from 0.
+//! Legs have the numbers 1 to [`MOST_LEGS`] and slots the numbers 1 to 4. Choices count from 0.
 #![tactic(auto)]
+
+ghost use Rattle.std.specs.Prelude.{◌≡◌};
+ghost use Rattle.om_colour.specs.Lines.{anti_colour};
 
 mod joining;
 pub mod laws;
@@ -22,9 +25,10 @@ mod tests;
 mod texts;
 
 pub use joining::{close, join};
+use om_legs::MOST_LEGS;
 pub use partials::partial_of_leg;
 pub use table::{ColourRow, pattern};
-pub use texts::{Extent, flow_text, partial_text};
+pub use texts::{Extent, FLOW_BYTES, flow_text, partial_text};
 
 /// The colour of a field as it enters a vertex. The antiparticle has 3 and -3 exchanged.
 #[derive(Clone, Copy, PartialEq, Eq, Debug)]
@@ -39,6 +43,20 @@ pub enum Colour {
     Eight,
 }
 
+impl Colour {
+    /// The colour of the antiparticle: 3 and -3 are exchanged.
+    pub fn anti(self) -> Colour
+        ensures { result ≡ anti_colour self }
+    {
+        match self {
+            Colour::One => Colour::One,
+            Colour::Three => Colour::AntiThree,
+            Colour::AntiThree => Colour::Three,
+            Colour::Eight => Colour::Eight,
+        }
+    }
+}
+
 /// Where a vertex sends the lines that arrive.
 #[derive(Clone, Copy, PartialEq, Eq, Debug)]
 pub struct Choice {
@@ -51,9 +69,9 @@ pub struct Choice {
 /// by `into`.
 #[derive(Clone, Copy, PartialEq, Eq, PartialOrd, Ord, Hash, Debug)]
 pub struct Partial {
-    /// `ends[k - 1]` is the leg where the line that starts at leg `k` ends, 13 where it leaves upwards, and 0
+    /// `ends[k - 1]` is the leg where the line that starts at leg `k` ends, [`UPWARDS`] where it leaves upwards, and 0
     /// where none starts.
-    pub ends: [u8; 12],
+    pub ends: [u8; ENDS],
     /// The leg where the line that enters from above ends, or 0 where none enters.
     pub into: u8,
 }
@@ -75,8 +93,11 @@ pub struct SlotPartials {
 #[derive(Clone, Copy, PartialEq, Eq, PartialOrd, Ord, Hash, Debug)]
 pub struct Flow {
     /// `ends[k - 1]` is the leg where the line that starts at leg `k` ends, or 0 where none starts.
-    pub ends: [u8; 12],
+    pub ends: [u8; ENDS],
 }
 
-// The end of a line that leaves its side upwards.
-const UPWARDS: u8 = 13;
+/// The end of a line that leaves its side upwards, in the place of a leg.
+pub const UPWARDS: u8 = MOST_LEGS + 1;
+
+/// How many legs a flow has places for.
+pub const ENDS: usize = MOST_LEGS as usize;

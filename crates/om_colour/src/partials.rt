@@ -3,14 +3,16 @@ ghost use Rattle.std.specs.Prelude.{◌≡◌, ◌+◌, ◌≤◌, ◌&&◌, Som
 ghost use Rattle.om_colour.specs.Lines.{ends_line, starts_line};
 ghost use Rattle.om_colour.specs.Lines.Side.{leg as leg_side};
 ghost use Rattle.om_colour.specs.Partials.{IsPartialOf, IsSound, each_leg, leg_partial};
+ghost use Rattle.om_legs.specs.declared.leg_set.TheConstants.{MOST_LEGS};
+ghost use Rattle.om_colour.specs.declared.TheConstants.{UPWARDS};
 
-use crate::{Colour, Partial, UPWARDS};
+use crate::{Colour, ENDS, Partial, UPWARDS};
 
-/// The partial flow of a leg from 1 to 12 that has this colour: its line leaves upwards where it starts one,
+/// The partial flow of a leg from 1 to [`om_legs::MOST_LEGS`] that has this colour: its line leaves upwards where it starts one,
 /// and the line that enters ends at it where it ends one.
 pub fn partial_of_leg(leg: u8, colour: Colour) -> Partial
     requires least { 1 ≤ leg }
-    requires most { leg ≤ 12 }
+    requires most { leg ≤ MOST_LEGS }
     ensures value { result ≡ leg_partial leg colour }
     ensures lines { IsPartialOf (leg_side leg colour) (Some result) }
     ensures sound { IsSound (Some result) }
@@ -21,12 +23,12 @@ pub fn partial_of_leg(leg: u8, colour: Colour) -> Partial
     }
 }
 
-fn ends_from(leg: u8, colour: Colour) -> [u8; 12]
+fn ends_from(leg: u8, colour: Colour) -> [u8; ENDS]
     requires least { 1 ≤ leg }
-    requires most { leg ≤ 12 }
-    ensures { result ≡ each_leg (λ k. cond (starts_line colour && eqb (k + 1) leg) 13 0) }
+    requires most { leg ≤ MOST_LEGS }
+    ensures { result ≡ each_leg (λ k. cond (starts_line colour && eqb (k + 1) leg) UPWARDS 0) }
 {
-    let mut ends = [0; 12];
+    let mut ends = [0; ENDS];
     if starts_line(colour) {
         ends[leg as usize - 1] = UPWARDS;
     }

@@ -1,9 +1,15 @@
 //! The texts of flows and partial flows.
 ghost use Rattle.std.specs.Prelude.{◌≡◌, ℕ, ◌+◌, ◌-◌, ◌*◌, ◌/◌, ◌≤◌, ◌<◌, ◌≢◌, List, ◌++◌, length, cond, eqb, decimal, []};
 ghost use Rattle.om_colour.specs.Texts.{end_text, flow_bytes, line_item, line_items, one_more, partial_bytes, with_commas};
+ghost use Rattle.om_ring.specs.declared.line.TheConstants.{LINE_BYTES};
+ghost use Rattle.om_colour.specs.declared.texts.TheConstants.{FLOW_BYTES};
+ghost use Rattle.om_legs.specs.declared.leg_set.TheConstants.{MOST_LEGS};
 
-use crate::{Flow, Partial, UPWARDS};
+use crate::{ENDS, Flow, Partial, UPWARDS};
 use om_ring::Line;
+
+/// The most bytes of the text of a flow or a partial flow.
+pub const FLOW_BYTES: usize = 80;
 
 /// What a text shows the lines of.
 #[derive(Clone, Copy)]
@@ -15,11 +21,11 @@ pub enum Extent {
 }
 
 /// Appends the text of a flow: an item `s>t` for each line from leg s to leg t, by rising starts, with commas
-/// between, and `-` where there is no line. Wants 80 free bytes, which suffice for any ends.
+/// between, and `-` where there is no line. Wants [`FLOW_BYTES`] free bytes, which suffice for any ends.
 pub fn flow_text(flow: &Flow, to: &mut Line)
-    requires { length to.old + 80 ≤ 512 }
+    requires { length to.old + FLOW_BYTES ≤ LINE_BYTES }
     ensures text { to.new ≡ to.old ++ flow_bytes flow.now }
-    ensures short { length to.new ≤ length to.old + 80 }
+    ensures short { length to.new ≤ length to.old + FLOW_BYTES }
 {
     let count = push_lines(to, Extent::Diagram, &flow.ends);
     if count == 0 {
@@ -28,9 +34,9 @@ pub fn flow_text(flow: &Flow, to: &mut Line)
 }
 
 /// Appends the text of a partial flow: as for a flow, with `s>` for a line that leaves upwards and last `>t` for
-/// the line that enters and ends at leg t. Wants 80 free bytes, which suffice for any ends.
+/// the line that enters and ends at leg t. Wants [`FLOW_BYTES`] free bytes, which suffice for any ends.
 pub fn partial_text(part: &Partial, to: &mut Line)
-    requires { length to.old + 80 ≤ 512 }
+    requires { length to.old + FLOW_BYTES ≤ LINE_BYTES }
     ensures { to.new ≡ to.old ++ partial_bytes part.now }
 {
     let count = push_lines(to, Extent::Side, &part.ends);
@@ -44,8 +50,8 @@ pub fn partial_text(part: &Partial, to: &mut Line)
 }
 
 // Appends the items of the lines, and says how many there are.
-fn push_lines(to: &mut Line, extent: Extent, ends: &[u8; 12]) -> usize
-    requires { length to.old + 75 ≤ 512 }
+fn push_lines(to: &mut Line, extent: Extent, ends: &[u8; ENDS]) -> usize
+    requires { length to.old + 75 ≤ LINE_BYTES }
     ensures text { to.new ≡ to.old ++ with_commas (line_items extent 1 ends.now) }
     ensures count { result ≡ length (line_items extent 1 ends.now) }
     ensures short { length to.new ≤ length to.old + 75 }
@@ -62,8 +68,8 @@ fn push_lines(to: &mut Line, extent: Extent, ends: &[u8; 12]) -> usize
 
 // Appends the item of a line, behind a comma where it isn't the first.
 fn push_item(to: &mut Line, count: usize, extent: Extent, start: u8, end: u8)
-    requires start { start ≤ 12 }
-    requires free { length to.old + 7 ≤ 512 }
+    requires start { start ≤ MOST_LEGS }
+    requires free { length to.old + 7 ≤ LINE_BYTES }
     ensures text { to.new ≡ to.old ++ one_more count (line_item extent start end) }
     ensures short { length to.new ≤ length to.old + 6 + start / 10 }
 {
@@ -77,7 +83,7 @@ fn push_item(to: &mut Line, count: usize, extent: Extent, start: u8, end: u8)
 }
 
 fn push_comma(to: &mut Line, count: usize)
-    requires { length to.old + 1 ≤ 512 }
+    requires { length to.old + 1 ≤ LINE_BYTES }
     ensures text { to.new ≡ to.old ++ one_more count [] }
     ensures short { length to.new ≤ length to.old + 1 }
 {
@@ -89,7 +95,7 @@ fn push_comma(to: &mut Line, count: usize)
 // Appends the number of a leg.
 #[tactic(auto, using(std::proofs::lemmas::Fmt::decimal_digit, crate::proofs::LegNumbers::decimal_two, crate::proofs::LegNumbers::decimal_three))]
 fn push_leg(to: &mut Line, leg: u8)
-    requires { length to.old + 3 ≤ 512 }
+    requires { length to.old + 3 ≤ LINE_BYTES }
     ensures text { to.new ≡ to.old ++ decimal leg }
     ensures short { length to.new ≤ length to.old + 3 }
     ensures one { leg < 10 → length to.new ≤ length to.old + 1 }

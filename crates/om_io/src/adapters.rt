@@ -1,11 +1,23 @@
 //! Readers, writers and files of the machine. Nothing is known of what they hold.
 ghost use Rattle.std.specs.Prelude.{◌≡◌, ◌≤◌, ℕ, List, [], length, None, Some, IfOk, bytes_eq, if◌then◌else◌};
+ghost use Rattle.om_io.specs.SystemAnswers.{Answers, IsCounted};
 
 use crate::calls::counted_fault;
 use crate::{Failed, Folder, Sink, Source};
 use std::io::{Read, Seek, SeekFrom, Write};
 use std::rt::Files;
 use std::{fs, io};
+
+// The answer to an outcome of the system: a count of at least `least` bytes as it is, anything else as a failure that is
+// counted.
+fn answer(outcome: io::Result<usize>, least: usize, faults: &mut u64) -> Result<usize, Failed>
+    ensures { Answers least outcome faults.old faults.new result }
+{
+    match outcome {
+        Ok(count) if count >= least => Ok(count),
+        _ => Err(counted_fault(faults)),
+    }
+}
 
 /// A reader of std as a source. It doesn't tell what is left.
 #[derive(Drop)]
@@ -29,10 +41,7 @@ impl<T: Read> Source for StdSource<T> {
     ghost faults = { λ s. s.faults };
 
     fn read(&mut self, to: &mut [u8]) -> Result<usize, Failed> {
-        match self.from.read(to) {
-            Ok(count) => Ok(count),
-            Err(_) => Err(counted_fault(&mut self.faults)),
-        }
+        answer(self.from.read(to), 0, &mut self.faults)
     }
 }
 
@@ -60,10 +69,7 @@ impl<T: Write> Sink for StdSink<T> {
     ghost faults = { λ s. s.faults };
 
     fn write(&mut self, piece: &[u8]) -> Result<usize, Failed> {
-        match self.to.write(piece) {
-            Ok(count) if count > 0 || piece.is_empty() => Ok(count),
-            _ => Err(counted_fault(&mut self.faults)),
-        }
+        answer(self.to.write(piece), piece.len().min(1), &mut self.faults)
     }
 }
 
@@ -108,9 +114,6 @@ impl<'r, R: Files> Folder for StdFolder<'r, R> {
         if name != self.name {
             return Ok(0);
         }
-        match read_part(self.rt, name, at, to) {
-            Ok(count) => Ok(count),
-            Err(_) => Err(counted_fault(&mut self.faults)),
-        }
+        answer(read_part(self.rt, name, at, to), 0, &mut self.faults)
     }
 }

@@ -1,7 +1,7 @@
 //! What the clauses don't say: that calls succeed, and the adapters over readers, writers and files of std.
 use super::*;
 use std::alloc::Global;
-use std::io::{self, Write};
+use std::io::{self, Read, Write};
 use std::process::Abort;
 use std::rt::Files;
 use std::test::Fail;
@@ -182,6 +182,36 @@ impl Write for Trickle {
     }
 }
 
+// Gives two bytes at a time, and fails at the second read and at no other.
+#[derive(Drop)]
+struct Stutter<'a> {
+    left: &'a [u8],
+    calls: u8,
+}
+
+impl<'a> Read for Stutter<'a> {
+    fn read(&mut self, to: &mut [u8]) -> io::Result<usize> {
+        self.calls = self.calls.saturating_add(1);
+        if self.calls == 2 {
+            return Err(io::Error::from(io::ErrorKind::Other));
+        }
+        let count = self.left.len().min(to.len()).min(2);
+        let (now, later) = self.left.split_at(count);
+        to[..count].copy_from_slice(now);
+        self.left = later;
+        Ok(count)
+    }
+}
+
+#[test]
+fn reader_that_fails_once(rt: HostRuntime) {
+    let mut source = StdSource::new(Stutter {
+        left: b"abcd",
+        calls: 0,
+    });
+    check_source(&rt, &mut source, &[Some("ab"), None, Some("cd"), Some("")]);
+}
+
 #[test]
 fn reader_of_std(rt: HostRuntime) {
     let text: &[u8] = b"abcdef";
@@ -223,4 +253,18 @@ fn file_of_the_machine(rt: HostRuntime) -> Result<(), Fail> {
     let path = folder.join(rt.alloc(), name.as_str())?;
     let path = path.to_str().ok_or("a path that isn't text")?;
     check_machine_file(&rt, rt.alloc(), path)
+}
+
+// A folder can be opened like a file, and each read of it fails.
+#[test]
+fn folder_of_the_machine_read_as_a_file(rt: HostRuntime) -> Result<(), Fail> {
+    let folder = env::temp_dir(&rt)?;
+    let path = folder.to_str().ok_or("a path that isn't text")?;
+    assert!(rt; fs::open(&rt, path).is_ok());
+    let mut files = StdFolder::new(&rt, path);
+    assert_eq!(rt;
+        read_file(rt.alloc(), &mut files, path, 20_000),
+        Err(FileFault::Failed)
+    );
+    Ok(())
 }

@@ -1,10 +1,11 @@
--- Sets of the legs 1 to 12, as numbers in which leg k counts 2 ^ (k - 1).
+-- Sets of the legs 1 to MOST_LEGS, as numbers in which leg k counts 2 ^ (k - 1).
 use Rattle.std.specs.Prelude.{◌≡◌, ℕ, zero, suc, ◌-◌, ◌/◌, ◌%◌, ◌^◌, ◌<◌, List, length, Bool, false, not, ◌&&◌, ◌||◌, ◌==◌, nat_le, if◌then◌else◌, slice_index, IsTrue}
+use Rattle.om_legs.specs.declared.leg_set.TheConstants.{MOST_LEGS}
 use Rattle.std.specs.List.{filter, sum_by, range_with_len}
 
 -- the number of a set of legs
 abbrev pub IsLegSet : ℕ → Type 0
-IsLegSet set = set < 2 ^ 12
+IsLegSet set = set < 2 ^ MOST_LEGS
 
 -- whether a set holds a leg, which counts 2 ^ (leg - 1) in the number of the set
 unfoldable pub holds : ℕ → ℕ → Bool
@@ -13,7 +14,7 @@ holds set (suc k) = set / 2 ^ k % 2 == 1
 
 -- all legs, in rising order
 abbrev pub every_leg : List ℕ
-every_leg = range_with_len 1 12
+every_leg = range_with_len 1 MOST_LEGS
 
 -- the legs of a set, in rising order
 unfoldable pub legs_of : ℕ → List ℕ

@@ -1,3 +1,4 @@
+//! The nodes that meet at a vertex.
 ghost use Rattle.om_legs.specs.Branches.{AreBranches};
 
 /// The nodes that meet at a vertex, in order of their least leg: `count` of them, from the front of

@@ -1,3 +1,4 @@
+//! The splits of a set into four parts.
 ghost use Rattle.std.specs.Prelude.{◌≡◌};
 
 use crate::leg_set::LegSet;

@@ -1,10 +1,15 @@
+//! Sets of legs.
 ghost use Rattle.std.specs.Prelude.{◌≡◌, ℕ, ◌^◌, ◌<◌, ◌≤◌, ◌↔◌, ◌∷◌, IsTrue};
 ghost use Rattle.om_legs.specs.Legs.{IsLegSet, holds, size, least, set_of_one, all_legs, union, minus, complement, Meet, IsSubset};
 ghost use Rattle.om_legs.specs.Walks.{without_least, subsets_down};
+ghost use Rattle.om_legs.specs.declared.leg_set.TheConstants.{MOST_LEGS};
 
 use std::marker::Model;
 
-/// A set of the external legs 1 to 12, seen as the number in which leg k counts 2^(k - 1).
+/// The most external legs.
+pub const MOST_LEGS: u8 = 12;
+
+/// A set of the external legs 1 to [`MOST_LEGS`], seen as the number in which leg k counts 2^(k - 1).
 #[derive(Clone, Copy, PartialEq, Eq, PartialOrd, Ord, Hash, Debug)]
 pub struct LegSet {
     bits: u16,
@@ -28,10 +33,10 @@ impl LegSet {
         LegSet { bits: 0 }
     }
 
-    /// The set of one leg, 1 to 12.
+    /// The set of one leg, 1 to [`MOST_LEGS`].
     pub fn one(leg: u8) -> LegSet
         requires some { 0 < leg }
-        requires within { leg ≤ 12 }
+        requires within { leg ≤ MOST_LEGS }
         ensures { result ≡ set_of_one leg }
     {
         LegSet {
@@ -39,10 +44,10 @@ impl LegSet {
         }
     }
 
-    /// The legs 1 to n, for n from 1 to 12.
+    /// The legs 1 to n, for n from 1 to [`MOST_LEGS`].
     pub fn all(n: u8) -> LegSet
         requires some { 0 < n }
-        requires within { n ≤ 12 }
+        requires within { n ≤ MOST_LEGS }
         ensures { result ≡ all_legs n }
     {
         LegSet { bits: (1 << n) - 1 }
@@ -68,10 +73,10 @@ impl LegSet {
         }
     }
 
-    /// The legs 1 to n, for n from 1 to 12, that are not in the set.
+    /// The legs 1 to n, for n from 1 to [`MOST_LEGS`], that are not in the set.
     pub fn complement(self, n: u8) -> LegSet
         requires some { 0 < n }
-        requires within { n ≤ 12 }
+        requires within { n ≤ MOST_LEGS }
         ensures legs { result ≡ complement self n }
         ensures valid { IsLegSet self }
     {
@@ -86,10 +91,10 @@ impl LegSet {
         self.bits & b.bits != 0
     }
 
-    /// Whether a leg, 1 to 12, is in the set.
+    /// Whether a leg, 1 to [`MOST_LEGS`], is in the set.
     pub fn holds(self, leg: u8) -> bool
         requires some { 0 < leg }
-        requires within { leg ≤ 12 }
+        requires within { leg ≤ MOST_LEGS }
         ensures leg { result ≡ holds self leg }
         ensures valid { IsLegSet self }
     {
@@ -139,7 +144,7 @@ impl LegSet {
         }
     }
 
-    /// The set with a number below 2^12, in which leg k counts 2^(k - 1).
+    /// The set with a number below 2^[`MOST_LEGS`], in which leg k counts 2^(k - 1).
     pub fn from_number(number: u16) -> LegSet
         requires { IsLegSet number }
         ensures { result ≡ number }

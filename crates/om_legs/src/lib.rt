@@ -3,6 +3,7 @@
 
 mod branches;
 mod four_parts;
+pub mod laws;
 mod leg_set;
 mod parity;
 mod splits;
@@ -11,7 +12,7 @@ mod two_parts;
 
 pub use branches::Branches;
 pub use four_parts::FourParts;
-pub use leg_set::LegSet;
+pub use leg_set::{LegSet, MOST_LEGS};
 pub use parity::cross_parity;
 pub use splits::{partitions3, partitions4, splits2, splits3};
 pub use three_parts::ThreeParts;

@@ -1,3 +1,4 @@
+//! The parity of crossings.
 ghost use Rattle.std.specs.Prelude.{◌≡◌, ℕ, ◌%◌, ◌<◌, ◌^◌};
 ghost use Rattle.std.specs.Int.{bit_at};
 ghost use Rattle.om_legs.specs.Legs.{legs_of, meeting};

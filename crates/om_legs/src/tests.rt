@@ -1,3 +1,4 @@
+//! Worked sets, splits and crossings, and the numbers of splits of twelve legs.
 use super::*;
 
 // The set of some legs.

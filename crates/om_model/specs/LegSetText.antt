@@ -1,0 +1,50 @@
+-- The text of a set of legs, as 1+4+7: decimals from 1 to 99 without leading zeros, strictly rising, joined by plus signs.
+use Rattle.std.specs.Prelude.{ℕ, ◌+◌, ◌-◌, ◌*◌, ◌==◌, List, [], ◌∷◌, Bool, ◌&&◌, nat_le, nat_lt, Option, Some, None, option_map, is_some, if◌then◌else◌}
+use Rattle.std.specs.List.{list_all, list_any, slice_split}
+use Rattle.om_legs.specs.Legs.{set_of, set_of_one, union}
+use Rattle.om_model.specs.Name.{is_digit}
+use Rattle.om_model.specs.declared.leg_set_text.LegsRead.{LegsRead}
+
+-- a digit that isn't 0
+abbrev pub begins_number : ℕ → Bool
+begins_number b = nat_le 49 b && nat_le b 57
+
+-- the number that one or two digits mean, of which the first isn't 0
+abbrev pub leg_number : List ℕ → Option ℕ
+leg_number (a ∷ []) = if begins_number a then Some (a - 48) else None
+leg_number (a ∷ b ∷ []) = if begins_number a && is_digit b then Some (10 * (a - 48) + (b - 48)) else None
+leg_number _ = None
+
+-- the numbers of the pieces, each greater than the one before, the first greater than `last`
+unfoldable pub numbers_above : ℕ → List (List ℕ) → Option (List ℕ)
+numbers_above last [] = Some []
+numbers_above last (piece ∷ pieces) =
+    elim (leg_number piece) as (λ _. Option (List ℕ)) [
+      | None ↦ None
+      | Some k ↦ if nat_lt last k then option_map (λ ks. k ∷ ks) (numbers_above k pieces) else None
+    ]
+
+-- the numbers of a set, or none where the bytes are no set
+abbrev pub set_numbers : List ℕ → Option (List ℕ)
+set_numbers bytes = numbers_above 0 (slice_split (λ b. b == 43) bytes)
+
+abbrev pub is_set : List ℕ → Bool
+is_set bytes = is_some (set_numbers bytes)
+
+-- the legs with these numbers; a number above 12 is no leg
+abbrev pub legs_numbered : List ℕ → ℕ
+legs_numbered numbers = set_of (λ leg. list_any (λ k. k == leg) numbers)
+
+-- the last of the numbers
+abbrev pub last_number : ℕ → List ℕ → ℕ
+last_number k [] = k
+last_number k (n ∷ ns) = last_number n ns
+
+-- what is kept of the numbers
+abbrev pub legs_read : List ℕ → LegsRead
+legs_read numbers = record { legs = legs_numbered numbers; greatest = last_number 0 numbers }
+
+-- one number more, which is to be greater than those before
+abbrev pub one_more : LegsRead → Option ℕ → Option LegsRead
+one_more read None = None
+one_more read (Some k) = if nat_lt read.greatest k then Some (record { legs = union read.legs (set_of_one k); greatest = k }) else None
