@@ -6,7 +6,8 @@ use Rattle.om_asm.specs.declared.fault.AsmKind.{AsmKind}
 use Rattle.om_asm.specs.declared.fault.AsmFault.{AsmFault}
 use Rattle.om_program_text.specs.ProgramText.{Words}
 use Rattle.om_asm.specs.Lines.{At}
-use Rattle.om_asm.specs.Rows.{BadLine, place, rows_from, at_line, GivesAt, ◌>>=◌}
+use Rattle.om_asm.specs.Rows.{BadLine, place, rows_from, at_line, GivesAt}
+use Rattle.om_ring.specs.ResultSteps.{◌>>=◌}
 
 is_less : (a b : Bool) → (a && b) ≡ true → b ≡ true
 is_less true b e = e

@@ -7,7 +7,8 @@ use Rattle.om_asm.specs.declared.fault.AsmKind.{AsmKind}
 use Rattle.om_asm.specs.declared.fault.AsmKind.TheVariants.{Grammar}
 use Rattle.om_program_text.specs.ProgramText.{Words, program_lines}
 use Rattle.om_asm.specs.Lines.{At}
-use Rattle.om_asm.specs.Rows.{BadLine, bad, place, ◌>>=◌}
+use Rattle.om_asm.specs.Rows.{BadLine, bad, place}
+use Rattle.om_ring.specs.ResultSteps.{◌>>=◌}
 use Rattle.om_asm.specs.Program.{program_at}
 use Rattle.om_asm.specs.FirstBad.{BeginsProgram}
 use Rattle.om_asm.proofs.ProgramLaws.{program_found}
@@ -67,6 +68,7 @@ module _ (lines : List Words) (line : ℕ) (kind : AsmKind) (said : program_at (
     where
       all : lines ++ [] ≡ lines
       all = append-nil lines
+
       by : Outcome up_to_end Anything Anything 1 lines → line ≤ length lines + 1
       by (fails e l u h) = omega (arith, failed_at lines [] e all (h []))
       by (stops x m back b l u h) = omega (arith, stopped_at lines [] x m back all b (h []))
@@ -89,6 +91,7 @@ module _ (lines : List Words) (line : ℕ) (kind : AsmKind) (said : program_at (
     where
       ok : finish (up_to_end (place 1 (front ++ b.later))) ≡ Ok b.code
       ok = program_is (place 1 (front ++ b.later)) ∙ ap (λ (ls : List Words). program_at (place 1 ls)) (sym b.begins) ∙ program_again b.code b.plain b.range
+
       by : Outcome up_to_end Anything Anything 1 front → ⊥
       by (fails e l u h) = let g = sym (ap finish (h b.later)) ∙ ok in cc
       by (stops x m back c l u h) = let g = sym (ends_early x m back b.later c) ∙ sym (ap finish (h b.later)) ∙ ok in cc

@@ -9,7 +9,7 @@ use Rattle.std.specs.BTreeMap.{BTreeMap, Updates}
 use Rattle.std.proofs.lemmas.Map.Text.{btree_map_updates_str}
 use denote.Ref.{Bor}
 use Rattle.om_model.specs.declared.model.Particle.{Particle}
-use Rattle.om_model.specs.ProcessText.{field_from}
+use Rattle.om_model.specs.FieldNames.{field_from}
 use Rattle.om_asm.specs.Fields.{named_in, or_else, where_named}
 use Rattle.om_asm.proofs.SpeltLemmas.{same_bytes, bytes_same}
 

@@ -2,7 +2,8 @@
 use Rattle.std.proofs.Common.{◌≡◌, ℕ, List, ◌∷◌, codes, Some, sym, ap, ap₂, subst, ◌∙◌}
 use Rattle.om_colour.specs.declared.Flow.{Flow}
 use Rattle.om_program_text.specs.ProgramText.{Words, flow_words}
-use Rattle.om_asm.specs.Lines.{◌>>=◌, word_by, no_more}
+use Rattle.om_asm.specs.Lines.{word_by, no_more}
+use Rattle.om_ring.specs.OptionSteps.{◌>>=◌}
 use Rattle.om_asm.specs.Flows.{flow_of, flow_line}
 use Rattle.om_asm.proofs.WordLaws.{bind_some, ended}
 use Rattle.om_asm.proofs.ModelWords.{IsReadableFlow, flow_spells}

@@ -11,8 +11,9 @@ use Rattle.om_colour.specs.declared.Flow.{Flow}
 use Rattle.om_colour.specs.Texts.{flow_bytes, line_item, line_items, with_commas, items_text}
 use Rattle.om_colour.specs.declared.texts.Extent.TheVariants.{Diagram}
 use Rattle.om_program_text.specs.ProgramText.{Words}
-use Rattle.om_asm.specs.Lines.{◌>>=◌, word_by, no_more}
-use Rattle.om_asm.specs.Spelt.{number_of}
+use Rattle.om_asm.specs.Lines.{word_by, no_more}
+use Rattle.om_ring.specs.OptionSteps.{◌>>=◌}
+use Rattle.om_ring.specs.Spelt.{decimal_below}
 use Rattle.om_asm.specs.Flows.{ends_of_line, ends_from, no_ends, flow_with, flow_of}
 use Rattle.om_asm.proofs.SpeltLemmas.{bytes_same, same_bytes}
 use Rattle.om_asm.proofs.WordLaws.{put, number_law}
@@ -40,8 +41,8 @@ ends_of_item : (s e : ℕ) → 1 ≤ s → s ≤ 12 → e ≤ 12 → ends_of_lin
 unfolding ends_of_line
 ends_of_item s e least hs he =
     let some : eqb s 0 ≡ false = grind (arith, nat_tests) in
-    put (number_of 13) decimal (λ n. n < 13) (number_law 13 (omega arith)) s (decimal e ∷ []) (λ a. word_by (number_of 13) a.1 >>= λ b. no_more b.1 >>= λ _. cond (eqb a.0 0) None (Some (a_line a.0 b.0))) (omega arith)
-    ∙ put (number_of 13) decimal (λ n. n < 13) (number_law 13 (omega arith)) e [] (λ b. no_more b.1 >>= λ _. cond (eqb s 0) None (Some (a_line s b.0))) (omega arith)
+    put (decimal_below 13) decimal (λ n. n < 13) (number_law 13 (omega arith)) s (decimal e ∷ []) (λ a. word_by (decimal_below 13) a.1 >>= λ b. no_more b.1 >>= λ _. cond (eqb a.0 0) None (Some (a_line a.0 b.0))) (omega arith)
+    ∙ put (decimal_below 13) decimal (λ n. n < 13) (number_law 13 (omega arith)) e [] (λ b. no_more b.1 >>= λ _. cond (eqb s 0) None (Some (a_line s b.0))) (omega arith)
     ∙ ap (λ b. cond b None (Some (a_line s e))) some
 
 one_item : (ends : List ℕ) (s e : ℕ) (more : Words) → 1 ≤ s → s ≤ 12 → e ≤ 12 → ends_from ends (item s e ∷ more) ≡ ends_from (slice_set ends (s - 1) e) more

@@ -7,8 +7,9 @@ use Rattle.om_asm.specs.declared.fault.AsmKind.TheVariants.{Grammar}
 use Rattle.om_program_text.specs.ProgramText.{Words, slots_lines}
 use Rattle.om_asm.specs.Lines.{At, first_line}
 use Rattle.om_asm.specs.Heads.{slots_of}
-use Rattle.om_asm.specs.Spelt.{number_of}
-use Rattle.om_asm.specs.Rows.{BadLine, bad, place, rows_from, at_line, behind, ◌>>=◌, is_load, is_step, is_key, load_row, step_row, key_row, instrs_at}
+use Rattle.om_ring.specs.Spelt.{decimal_below}
+use Rattle.om_asm.specs.Rows.{BadLine, bad, place, rows_from, at_line, behind, is_load, is_step, is_key, load_row, step_row, key_row, instrs_at}
+use Rattle.om_ring.specs.ResultSteps.{◌>>=◌}
 use Rattle.om_asm.specs.Program.{one_line, line_or_bad, slots_at}
 use Rattle.om_asm.proofs.OneLine.{keyed_none}
 use Rattle.om_asm.proofs.HeadsAgain.{keyed_again}
@@ -148,7 +149,7 @@ slots_outcome version = by (eqb version 1)
   where
     by : (b : Bool) → Outcomes (λ a. cond b (let y : ℕ × At = (0, a) in Ok y) (one_line slots_of a)) Ends Ends
     by true = no_line
-    by false = line_outcome slots_of 0 (codes "slots" ∷ decimal 0 ∷ []) Ends Ends (keyed_none (codes "slots") (number_of (2 ^ 32))) (keyed_again (codes "slots") (number_of (2 ^ 32)) (decimal 0) 0 ((number_law (2 ^ 32) (omega arith)).again 0 (omega arith))) (λ ls f. inl refl)
+    by false = line_outcome slots_of 0 (codes "slots" ∷ decimal 0 ∷ []) Ends Ends (keyed_none (codes "slots") (decimal_below (2 ^ 32))) (keyed_again (codes "slots") (decimal_below (2 ^ 32)) (decimal 0) 0 ((number_law (2 ^ 32) (omega arith)).again 0 (omega arith))) (λ ls f. inl refl)
 
 -- ---- instructions
 

@@ -3,14 +3,17 @@ use Rattle.std.proofs.Common.{◌≡◌, ℕ, ◌+◌, ◌^◌, ◌<◌, ◌⊎�
 use Rattle.std.specs.Str.{bytes_eq}
 use Rattle.std.proofs.lemmas.Fmt.{decimal_digit}
 use Rattle.om_program_text.specs.ProgramText.{Words, version_words, model_words, slots_lines, end_words}
-use Rattle.om_asm.specs.Lines.{At, first_line, ◌>>=◌, word_by, no_more}
-use Rattle.om_asm.specs.Spelt.{number_of, literal}
+use Rattle.om_asm.specs.Lines.{At, first_line, word_by, no_more}
+use Rattle.om_ring.specs.OptionSteps.{◌>>=◌}
+use Rattle.om_asm.specs.Spelt.{literal}
+use Rattle.om_ring.specs.Spelt.{decimal_below}
 use Rattle.om_asm.specs.Heads.{version_word, keyed, version_of, model_name_of, slots_of, end_of}
 use Rattle.om_asm.specs.Reading.{name_of}
 use Rattle.om_asm.specs.Rows.{place}
 use Rattle.om_asm.specs.Program.{one_line, line_or_bad, slots_at}
 use Rattle.om_asm.specs.FirstBad.{IsName}
-use Rattle.om_asm.proofs.SpeltLemmas.{same_bytes, spelt_found}
+use Rattle.om_asm.proofs.SpeltLemmas.{same_bytes}
+use Rattle.om_ring.proofs.SpeltLemmas.{spelt_found}
 use Rattle.om_asm.proofs.WordLaws.{bind_some, ended}
 use Rattle.om_asm.proofs.OneLine.{keyed_none}
 use Rattle.om_asm.proofs.ModelWords.{pick, name_spells}
@@ -52,7 +55,7 @@ name_found words n e =
 
 pub slots_line_found : (words : Words) (s : ℕ) → slots_of words ≡ Some s → (words ≡ codes "slots" ∷ decimal s ∷ []) × (s < 2 ^ 32)
 slots_line_found words s e =
-    let k = keyed_found (codes "slots") (number_of (2 ^ 32)) words s e in
+    let k = keyed_found (codes "slots") (decimal_below (2 ^ 32)) words s e in
     let w = spelt_found decimal (2 ^ 32) k.0 s k.2 in
     (k.1 ∙ ap (λ (u : List ℕ). codes "slots" ∷ u ∷ []) (sym w.1), w.0)
 
@@ -98,7 +101,7 @@ by_version version true s a b t e =
     let none : slots_lines version s ≡ [] = ap (λ q. cond q [] ((codes "slots" ∷ decimal s ∷ []) ∷ [])) t in
     (ap (λ (p : ℕ × At). p.1.lines) same ∙ ap (λ (ls : List Words). ls ++ b.lines) (sym none), rw t tt)
 by_version version false s a b t e =
-    let l = line_found slots_of s a b (keyed_none (codes "slots") (number_of (2 ^ 32))) e in
+    let l = line_found slots_of s a b (keyed_none (codes "slots") (decimal_below (2 ^ 32))) e in
     let w = slots_line_found l.0 s l.2 in
     let one : slots_lines version s ≡ (codes "slots" ∷ decimal s ∷ []) ∷ [] = ap (λ q. cond q [] ((codes "slots" ∷ decimal s ∷ []) ∷ [])) t in
     (l.1 ∙ ap (λ (v : Words). v ∷ b.lines) w.0 ∙ ap (λ (ls : List Words). ls ++ b.lines) (sym one), rw t w.1)

@@ -3,8 +3,10 @@ use Rattle.std.proofs.Common.{◌≡◌, ℕ, ◌+◌, ◌^◌, ◌<◌, ◌⊎�
 use Rattle.std.proofs.lemmas.Fmt.{decimal_digit}
 use Rattle.om_model.specs.Name.{is_name}
 use Rattle.om_program_text.specs.ProgramText.{Words, version_words, model_words, slots_lines, end_words}
-use Rattle.om_asm.specs.Lines.{At, ◌>>=◌, word_by, no_more}
-use Rattle.om_asm.specs.Spelt.{number_of, literal}
+use Rattle.om_asm.specs.Lines.{At, word_by, no_more}
+use Rattle.om_ring.specs.OptionSteps.{◌>>=◌}
+use Rattle.om_asm.specs.Spelt.{literal}
+use Rattle.om_ring.specs.Spelt.{decimal_below}
 use Rattle.om_asm.specs.Heads.{version_word, keyed, version_of, model_name_of, slots_of, end_of}
 use Rattle.om_asm.specs.Reading.{name_of}
 use Rattle.om_asm.specs.Rows.{BadLine, place}
@@ -51,7 +53,7 @@ slots_again version slots number ls h = by (eqb version 1) h
   where
     by : (b : Bool) → cond b (Unit {0}) (slots < 2 ^ 32) → cond b (at_place 0 number (cond b [] ((codes "slots" ∷ decimal slots ∷ []) ∷ []) ++ ls)) (one_line slots_of (place number (cond b [] ((codes "slots" ∷ decimal slots ∷ []) ∷ []) ++ ls))) ≡ at_place (cond b 0 slots) (cond b number (number + 1)) ls
     by true k = refl
-    by false k = line_again slots_of (codes "slots" ∷ decimal slots ∷ []) slots number ls (keyed_again (codes "slots") (number_of (2 ^ 32)) (decimal slots) slots ((number_law (2 ^ 32) (omega arith)).again slots k))
+    by false k = line_again slots_of (codes "slots" ∷ decimal slots ∷ []) slots number ls (keyed_again (codes "slots") (decimal_below (2 ^ 32)) (decimal slots) slots ((number_law (2 ^ 32) (omega arith)).again slots k))
 
 abbrev pub finished : Result (Unit {0}) BadLine
 finished = Ok tt

@@ -10,7 +10,8 @@ use Rattle.om_asm.specs.declared.instr_line.Joint.{Joint}
 use Rattle.om_program_text.specs.ProgramText.{Words, instr_words, joint_words}
 use Rattle.om_program_text.specs.Words.{place_word}
 use Rattle.om_asm.specs.InRange.{InstrInRange}
-use Rattle.om_asm.specs.Lines.{◌>>=◌, word_by, no_more}
+use Rattle.om_asm.specs.Lines.{word_by, no_more}
+use Rattle.om_ring.specs.OptionSteps.{◌>>=◌}
 use Rattle.om_asm.specs.Spelt.{place_of, leg_of}
 use Rattle.om_asm.specs.Instrs.{load_of, fuse_of, key_of}
 use Rattle.om_asm.specs.Rows.{formed, is_load, is_step, is_key, load_row, step_row, key_row}

@@ -1,17 +1,20 @@
 -- The lines of instructions and what they say.
 use Rattle.std.proofs.Common.{◌≡◌, ℕ, zero, suc, ◌-◌, ◌<◌, ◌≤◌, eqb, leb, Bool, true, false, cond, List, [], ◌∷◌, length, map, take, decimal, codes, Option, Some, None, refl, sym, ap, ap₂, subst, ◌∙◌, arith}
+use Rattle.std.specs.List.{AllByRecursion}
 use Rattle.std.proofs.lemmas.Bool.Decides.{nat_tests}
 use Rattle.om_legs.specs.declared.branches.Branches.{Branches}
 use Rattle.om_legs.specs.Branches.{AreBranches}
 use Rattle.om_code.specs.declared.code.Instr.{Instr}
 use Rattle.om_code.specs.declared.code.Instr.TheVariants.{Load, Fuse, Prop, Key}
-use Rattle.om_code.specs.Plain.{IsPlace, IsPlainInstr, ArePlaces, IsLoadSlot, part_of}
+use Rattle.om_code.specs.Plain.{IsPlace, IsPlainInstr, IsLoadSlot, part_of}
 use Rattle.om_asm.specs.declared.instr_line.Joint.{Joint}
 use Rattle.om_program_text.specs.ProgramText.{Words, branch_words, joint_words, instr_words, load_words}
 use Rattle.om_program_text.specs.Words.{place_word, sign_word}
 use Rattle.om_asm.specs.InRange.{InstrInRange}
-use Rattle.om_asm.specs.Lines.{◌>>=◌, word_by, no_more}
-use Rattle.om_asm.specs.Spelt.{place_of, leg_of, number_of}
+use Rattle.om_asm.specs.Lines.{word_by, no_more}
+use Rattle.om_ring.specs.OptionSteps.{◌>>=◌}
+use Rattle.om_asm.specs.Spelt.{place_of, leg_of}
+use Rattle.om_ring.specs.Spelt.{decimal_below}
 use Rattle.om_asm.specs.BranchLists.{two_nodes, three_nodes, four_nodes}
 use Rattle.om_asm.specs.BranchEquality.{branches_same}
 use Rattle.om_asm.specs.Instrs.{sign_of, branches_of, third_of, fourth_of, joint_of, fuse_of, key_of, prop_of, load_of}
@@ -40,7 +43,7 @@ prop_again slot den h k =
 -- branches as they are read: in range, and so many nodes
 pub record AreNodes (b : Branches) : Type 0 where
   pub length_four : length b.nodes ≡ 4
-  pub places : ArePlaces b.count b.nodes
+  pub places : AllByRecursion IsPlace b.nodes
 
 fourth_found : (a b c : ℕ) (words : Words) (y : Branches) → IsPlace a → IsPlace b → IsPlace c → fourth_of a b c words ≡ Some y → (place_word a ∷ place_word b ∷ place_word c ∷ words ≡ branch_words y) × AreNodes y
 fourth_found a b c [] y h i j e =
@@ -90,7 +93,7 @@ some_again a b ws h i =
     put place_of place_word IsPlace place_law a (place_word b ∷ ws) (λ a. word_by place_of a.1 >>= λ b. third_of a.0 b.0 b.1) h
     ∙ put place_of place_word IsPlace place_law b ws (λ b. third_of a b.0 b.1) i
 
-by_count : (n a b c d : ℕ) (valid : AreBranches n (a ∷ b ∷ c ∷ d ∷ [])) → ArePlaces n (a ∷ b ∷ c ∷ d ∷ []) → branches_of (map place_word (take n (a ∷ b ∷ c ∷ d ∷ []))) ≡ Some (record { count = n; nodes = a ∷ b ∷ c ∷ d ∷ []; valid = valid })
+by_count : (n a b c d : ℕ) (valid : AreBranches n (a ∷ b ∷ c ∷ d ∷ [])) → AllByRecursion IsPlace (a ∷ b ∷ c ∷ d ∷ []) → branches_of (map place_word (take n (a ∷ b ∷ c ∷ d ∷ []))) ≡ Some (record { count = n; nodes = a ∷ b ∷ c ∷ d ∷ []; valid = valid })
 by_count zero a b c d valid h = absurd (let s = valid.several in omega arith)
 by_count (suc zero) a b c d valid h = absurd (let s = valid.several in omega arith)
 by_count (suc (suc zero)) a b c d valid h =
@@ -107,7 +110,7 @@ by_count (suc (suc (suc (suc zero)))) a b c d valid h =
     ∙ ap Some (branches_same (four_nodes a b c d) _ refl refl)
 by_count (suc (suc (suc (suc (suc n))))) a b c d valid h = absurd (let s = valid.within in omega arith)
 
-by_nodes : (n : ℕ) (nodes : List ℕ) (valid : AreBranches n nodes) → length nodes ≡ 4 → ArePlaces n nodes → branches_of (map place_word (take n nodes)) ≡ Some (record { count = n; nodes = nodes; valid = valid })
+by_nodes : (n : ℕ) (nodes : List ℕ) (valid : AreBranches n nodes) → length nodes ≡ 4 → AllByRecursion IsPlace nodes → branches_of (map place_word (take n nodes)) ≡ Some (record { count = n; nodes = nodes; valid = valid })
 by_nodes n [] valid l h = absurd (omega arith)
 by_nodes n (a ∷ []) valid l h = absurd (omega arith)
 by_nodes n (a ∷ b ∷ []) valid l h = absurd (omega arith)
@@ -135,10 +138,10 @@ a_joint target minus vertex choice branches = record { to = target; minus = minu
 pub joint_found : (words : Words) (j : Joint) → joint_of words ≡ Some j → (words ≡ words_of_joint j) × IsPlainJoint j
 unfolding joint_of
 joint_found words j e =
-    let a = took place_of place_word IsPlace place_law words (λ a. word_by sign_of a.1 >>= λ b. word_by place_of b.1 >>= λ c. word_by (number_of 256) c.1 >>= λ d. branches_of d.1 >>= λ y. Some (a_joint a.0 b.0 c.0 d.0 y)) j e in
-    let b = took sign_of sign_word (λ _. Unit {0}) sign_law a.1 (λ b. word_by place_of b.1 >>= λ c. word_by (number_of 256) c.1 >>= λ d. branches_of d.1 >>= λ y. Some (a_joint a.0 b.0 c.0 d.0 y)) j a.4 in
-    let c = took place_of place_word IsPlace place_law b.1 (λ c. word_by (number_of 256) c.1 >>= λ d. branches_of d.1 >>= λ y. Some (a_joint a.0 b.0 c.0 d.0 y)) j b.4 in
-    let d = took (number_of 256) decimal (λ n. n < 256) (number_law 256 (omega arith)) c.1 (λ d. branches_of d.1 >>= λ y. Some (a_joint a.0 b.0 c.0 d.0 y)) j c.4 in
+    let a = took place_of place_word IsPlace place_law words (λ a. word_by sign_of a.1 >>= λ b. word_by place_of b.1 >>= λ c. word_by (decimal_below 256) c.1 >>= λ d. branches_of d.1 >>= λ y. Some (a_joint a.0 b.0 c.0 d.0 y)) j e in
+    let b = took sign_of sign_word (λ _. Unit {0}) sign_law a.1 (λ b. word_by place_of b.1 >>= λ c. word_by (decimal_below 256) c.1 >>= λ d. branches_of d.1 >>= λ y. Some (a_joint a.0 b.0 c.0 d.0 y)) j a.4 in
+    let c = took place_of place_word IsPlace place_law b.1 (λ c. word_by (decimal_below 256) c.1 >>= λ d. branches_of d.1 >>= λ y. Some (a_joint a.0 b.0 c.0 d.0 y)) j b.4 in
+    let d = took (decimal_below 256) decimal (λ n. n < 256) (number_law 256 (omega arith)) c.1 (λ d. branches_of d.1 >>= λ y. Some (a_joint a.0 b.0 c.0 d.0 y)) j c.4 in
     let y = bind_some (branches_of d.1) (λ y. Some (a_joint a.0 b.0 c.0 d.0 y)) j d.4 in
     let t = branches_found d.1 y.0 y.1 in
     let same : a_joint a.0 b.0 c.0 d.0 y.0 ≡ j = cc in
@@ -148,10 +151,10 @@ joint_found words j e =
 pub joint_again : (j : Joint) → IsPlainJoint j → joint_of (words_of_joint j) ≡ Some j
 unfolding joint_of
 joint_again j h =
-    put place_of place_word IsPlace place_law j.to _ (λ a. word_by sign_of a.1 >>= λ b. word_by place_of b.1 >>= λ c. word_by (number_of 256) c.1 >>= λ d. branches_of d.1 >>= λ y. Some (a_joint a.0 b.0 c.0 d.0 y)) h.to_place
-    ∙ put sign_of sign_word (λ _. Unit {0}) sign_law j.minus _ (λ b. word_by place_of b.1 >>= λ c. word_by (number_of 256) c.1 >>= λ d. branches_of d.1 >>= λ y. Some (a_joint j.to b.0 c.0 d.0 y)) tt
-    ∙ put place_of place_word IsPlace place_law j.vertex _ (λ c. word_by (number_of 256) c.1 >>= λ d. branches_of d.1 >>= λ y. Some (a_joint j.to j.minus c.0 d.0 y)) h.vertex_place
-    ∙ put (number_of 256) decimal (λ n. n < 256) (number_law 256 (omega arith)) j.choice (branch_words j.branches) (λ d. branches_of d.1 >>= λ y. Some (a_joint j.to j.minus j.vertex d.0 y)) h.choice
+    put place_of place_word IsPlace place_law j.to _ (λ a. word_by sign_of a.1 >>= λ b. word_by place_of b.1 >>= λ c. word_by (decimal_below 256) c.1 >>= λ d. branches_of d.1 >>= λ y. Some (a_joint a.0 b.0 c.0 d.0 y)) h.to_place
+    ∙ put sign_of sign_word (λ _. Unit {0}) sign_law j.minus _ (λ b. word_by place_of b.1 >>= λ c. word_by (decimal_below 256) c.1 >>= λ d. branches_of d.1 >>= λ y. Some (a_joint j.to b.0 c.0 d.0 y)) tt
+    ∙ put place_of place_word IsPlace place_law j.vertex _ (λ c. word_by (decimal_below 256) c.1 >>= λ d. branches_of d.1 >>= λ y. Some (a_joint j.to j.minus c.0 d.0 y)) h.vertex_place
+    ∙ put (decimal_below 256) decimal (λ n. n < 256) (number_law 256 (omega arith)) j.choice (branch_words j.branches) (λ d. branches_of d.1 >>= λ y. Some (a_joint j.to j.minus j.vertex d.0 y)) h.choice
     ∙ ap (λ (o : Option Branches). o >>= λ y. Some (a_joint j.to j.minus j.vertex j.choice y)) (branches_again j.branches h.nodes)
 
 -- ---- whole lines

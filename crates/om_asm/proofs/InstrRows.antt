@@ -9,7 +9,8 @@ use Rattle.om_program_text.specs.ProgramText.{Words, instr_words}
 use Rattle.om_asm.specs.InRange.{InstrInRange}
 use Rattle.om_asm.specs.Lines.{At}
 use Rattle.om_asm.specs.Instrs.{load_of, fuse_of, prop_of, key_of}
-use Rattle.om_asm.specs.Rows.{BadLine, rows_from, behind, formed, is_load, is_fuse, is_step, is_key, load_row, step_row, key_row, instrs_at, ◌>>=◌}
+use Rattle.om_asm.specs.Rows.{BadLine, rows_from, behind, formed, is_load, is_fuse, is_step, is_key, load_row, step_row, key_row, instrs_at}
+use Rattle.om_ring.specs.ResultSteps.{◌>>=◌}
 use Rattle.om_asm.proofs.SpeltLemmas.{same_bytes}
 use Rattle.om_asm.proofs.InstrLaws.{load_found, fuse_found, prop_found, key_found}
 use Rattle.om_asm.proofs.RowLaws.{formed_ok, bind_ok, RowsFound, rows_found}

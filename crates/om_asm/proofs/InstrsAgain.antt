@@ -8,7 +8,8 @@ use Rattle.om_code.specs.Plain.{IsPlainInstr, InParts, part_of}
 use Rattle.om_program_text.specs.ProgramText.{Words, instr_words}
 use Rattle.om_asm.specs.InRange.{InstrInRange}
 use Rattle.om_asm.specs.Lines.{At}
-use Rattle.om_asm.specs.Rows.{BadLine, place, rows_from, behind, is_load, is_step, is_key, load_row, step_row, key_row, instrs_at, ◌>>=◌}
+use Rattle.om_asm.specs.Rows.{BadLine, place, rows_from, behind, is_load, is_step, is_key, load_row, step_row, key_row, instrs_at}
+use Rattle.om_ring.specs.ResultSteps.{◌>>=◌}
 use Rattle.om_asm.proofs.RowLaws.{rows_again, Stops}
 use Rattle.om_asm.proofs.InstrAgain.{IsReadable, all_loads, all_steps, all_keys}
 

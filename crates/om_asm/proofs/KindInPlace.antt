@@ -14,7 +14,8 @@ use Rattle.om_asm.specs.declared.fault.AsmKind.TheVariants.{Grammar, Name}
 use Rattle.om_asm.specs.declared.reader.Process.{Process}
 use Rattle.om_program_text.specs.ProgramText.{Words}
 use Rattle.om_asm.specs.Lines.{At, first_line}
-use Rattle.om_asm.specs.Rows.{BadLine, bad, place, rows_from, at_line, behind, formed, ◌>>=◌}
+use Rattle.om_asm.specs.Rows.{BadLine, bad, place, rows_from, at_line, behind, formed}
+use Rattle.om_ring.specs.ResultSteps.{◌>>=◌}
 use Rattle.om_asm.specs.Program.{one_line, line_or_bad}
 use Rattle.om_asm.specs.FirstBad.{line_at, NamesFields, NamesInPlace, group_of, group_of_word}
 use Rattle.om_asm.proofs.SpeltLemmas.{same_bytes}
@@ -190,6 +191,7 @@ module _ (lines : List Words) where
           let g = of_group l x e in
           later (group + 1) (place (number + 1) ls) l (s.before ++ s.last ∷ []) (omega (arith, length-append s.before (s.last ∷ []))) (s.parts ∙ sym (append_assoc s.before (s.last ∷ []) (l ∷ ls)))
           (let n = s.number in let k = length-append s.before (s.last ∷ []) in omega arith) (omega (arith, g)) (omega (arith, g))
+
       by_lines : (number : ℕ) (ls : List Words) → Stands group (place number ls) → Judges (group + 1) (one_line read (place number ls))
       by_lines number [] s = subst (λ (o : Option A). Judges (group + 1) (line_or_bad o (place number []))) (sym none) (not_named group (place number []) s high)
       by_lines number (l ∷ ls) s = by number l ls (read l) refl s

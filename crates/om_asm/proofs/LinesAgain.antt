@@ -8,7 +8,7 @@ use Rattle.om_colour.specs.declared.Colour.{Colour}
 use Rattle.om_legs.specs.Legs.{IsLegSet}
 use Rattle.om_model.specs.Name.{is_name}
 use Rattle.om_model.specs.Words.{spin_of_word}
-use Rattle.om_model.specs.ProcessText.{field_from}
+use Rattle.om_model.specs.FieldNames.{field_from}
 use Rattle.om_model.specs.declared.model.Particle.{Particle}
 use Rattle.om_code.specs.declared.code.Den.{Den}
 use Rattle.om_code.specs.Plain.{field_name, IsNamed, IsPlainDen, IsPlainParticle}
@@ -17,7 +17,8 @@ use Rattle.om_asm.specs.InRange.{ParticleInRange}
 use Rattle.om_program_text.specs.ProgramText.{Words}
 use Rattle.om_program_text.specs.Words.{spin_word, colour_word, product_word, set_word}
 use Rattle.om_asm.specs.Lines.{word_by, no_more, next_word}
-use Rattle.om_asm.specs.Rows.{◌>>=◌, formed}
+use Rattle.om_asm.specs.Rows.{formed}
+use Rattle.om_ring.specs.ResultSteps.{◌>>=◌}
 use Rattle.om_asm.specs.Reading.{name_of, colour_of, product_of, set_of, named, leg_row, den_row, particle_row}
 use Rattle.om_asm.proofs.SpeltLemmas.{same_bytes}
 use Rattle.om_asm.proofs.ModelWords.{pick}

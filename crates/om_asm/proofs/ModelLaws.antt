@@ -5,7 +5,7 @@ use Rattle.om_lorentz.specs.declared.structures.Spin.{Spin}
 use Rattle.om_colour.specs.declared.Colour.{Colour}
 use Rattle.om_model.specs.Name.{is_name}
 use Rattle.om_model.specs.Words.{spin_of_word}
-use Rattle.om_model.specs.ProcessText.{field_named}
+use Rattle.om_model.specs.FieldNames.{field_named}
 use Rattle.om_model.specs.declared.model.Particle.{Particle}
 use Rattle.om_code.specs.declared.code.Den.{Den}
 use Rattle.om_code.specs.Plain.{field_name, IsNamed, IsProduct, IsPlainDen, IsPlainParticle}
@@ -14,7 +14,8 @@ use Rattle.om_asm.specs.declared.fault.AsmKind.TheVariants.{Grammar}
 use Rattle.om_program_text.specs.ProgramText.{Words, leg_words, den_words, particle_words}
 use Rattle.om_program_text.specs.Words.{spin_word, colour_word, product_word, set_word}
 use Rattle.om_asm.specs.Lines.{word_by, no_more, next_word}
-use Rattle.om_asm.specs.Rows.{◌>>=◌, formed}
+use Rattle.om_asm.specs.Rows.{formed}
+use Rattle.om_ring.specs.ResultSteps.{◌>>=◌}
 use Rattle.om_asm.specs.Reading.{name_of, colour_of, product_of, set_of, known, named, leg_row, den_row, particle_row}
 use Rattle.om_asm.specs.Slots.{slot_of}
 use Rattle.om_asm.proofs.WordLaws.{bind_some}

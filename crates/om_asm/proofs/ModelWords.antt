@@ -20,13 +20,14 @@ use Rattle.om_colour.specs.Texts.{flow_bytes}
 use Rattle.om_colour.specs.declared.Colour.TheVariants.{One, Three, AntiThree, Eight}
 use Rattle.om_model.specs.Name.{is_name}
 use Rattle.om_model.specs.Words.{structure_of_word, spin_of_word}
-use Rattle.om_model.specs.ProcessText.{field_named, field_from}
+use Rattle.om_model.specs.FieldNames.{field_named, field_from}
 use Rattle.om_model.specs.declared.model.Particle.{Particle}
 use Rattle.om_code.specs.Plain.{name_in, field_name, IsNamed, IsProduct, IsPlainFlow}
 use Rattle.om_program_text.specs.ProgramText.{Words}
 use Rattle.om_program_text.specs.Words.{spin_word, structure_word, colour_word, product_word, set_word}
-use Rattle.om_asm.specs.Lines.{◌>>=◌, word_by, no_more}
-use Rattle.om_asm.specs.Spelt.{number_of}
+use Rattle.om_asm.specs.Lines.{word_by, no_more}
+use Rattle.om_ring.specs.OptionSteps.{◌>>=◌}
+use Rattle.om_ring.specs.Spelt.{decimal_below}
 use Rattle.om_asm.specs.Lists.{list_from}
 use Rattle.om_asm.specs.Reading.{name_of, colour_of, canonical, factor_of, product_of, legs_from, spelled_set, set_of}
 use Rattle.om_asm.specs.Flows.{ends_of_line, ends_from, no_ends, flow_with, flow_of}
@@ -191,18 +192,19 @@ no_legs : set_word 0 ≡ []
 unfolding legs_of holds
 no_legs = refl
 
-none_from : (set : ℕ) → number_of 13 [] ≡ None → legs_from set ([] ∷ []) ≡ None
+none_from : (set : ℕ) → decimal_below 13 [] ≡ None → legs_from set ([] ∷ []) ≡ None
 unfolding legs_from
 none_from set e = ap (λ (o : Option ℕ). elim o as (λ _. Option ℕ) [ None ↦ None | Some leg ↦ cond (eqb leg 0) None (legs_from (union set (set_of_one leg)) []) ]) e
 
 legs_within : (set : ℕ) (ws : Words) (s : ℕ) → IsLegSet set → legs_from set ws ≡ Some s → IsLegSet s
 unfolding legs_from
 legs_within set [] s h e = let same : set ≡ s = cc in subst IsLegSet same h
-legs_within set (w ∷ ws) s h e = by (number_of 13 w) (λ leg f. legs_within (union set (set_of_one leg)) ws s (IsLegSet-union set (set_of_one leg)) f) e
+legs_within set (w ∷ ws) s h e = by (decimal_below 13 w) (λ leg f. legs_within (union set (set_of_one leg)) ws s (IsLegSet-union set (set_of_one leg)) f) e
   where
     by_leg : (b : Bool) (o : Option ℕ) → (o ≡ Some s → IsLegSet s) → cond b None o ≡ Some s → IsLegSet s
     by_leg true o k f = absurd cc
     by_leg false o k f = k f
+
     by : (o : Option ℕ) → ((leg : ℕ) → legs_from (union set (set_of_one leg)) ws ≡ Some s → IsLegSet s) → elim o as (λ _. Option ℕ) [ None ↦ None | Some leg ↦ cond (eqb leg 0) None (legs_from (union set (set_of_one leg)) ws) ] ≡ Some s → IsLegSet s
     by None k f = absurd cc
     by (Some leg) k f = by_leg (eqb leg 0) (legs_from (union set (set_of_one leg)) ws) (k leg) f
@@ -234,8 +236,8 @@ set_all P (y ∷ ys) (suc k) x h p = (h.0, set_all P ys k x h.1 p)
 line_end : (words : Words) (l : ℕ × ℕ) → ends_of_line words ≡ Some l → l.1 ≤ 12
 unfolding ends_of_line
 line_end words l e =
-    let a = took (number_of 13) decimal (λ n. n < 13) (number_law 13 (omega arith)) words (λ s. word_by (number_of 13) s.1 >>= λ t. no_more t.1 >>= λ _. cond (eqb s.0 0) None (Some (s.0, t.0))) l e in
-    let b = took (number_of 13) decimal (λ n. n < 13) (number_law 13 (omega arith)) a.1 (λ t. no_more t.1 >>= λ _. cond (eqb a.0 0) None (Some (a.0, t.0))) l a.4 in
+    let a = took (decimal_below 13) decimal (λ n. n < 13) (number_law 13 (omega arith)) words (λ s. word_by (decimal_below 13) s.1 >>= λ t. no_more t.1 >>= λ _. cond (eqb s.0 0) None (Some (s.0, t.0))) l e in
+    let b = took (decimal_below 13) decimal (λ n. n < 13) (number_law 13 (omega arith)) a.1 (λ t. no_more t.1 >>= λ _. cond (eqb a.0 0) None (Some (a.0, t.0))) l a.4 in
     let n = ended b.1 (λ _. cond (eqb a.0 0) None (Some (a.0, b.0))) l b.4 in
     by (eqb a.0 0) (a.0, b.0) l n.1 (omega (arith, b.3))
   where

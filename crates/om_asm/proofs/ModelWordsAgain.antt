@@ -13,13 +13,13 @@ use Rattle.om_colour.specs.declared.Colour.{Colour}
 use Rattle.om_colour.specs.declared.Colour.TheVariants.{One, Three, AntiThree, Eight}
 use Rattle.om_model.specs.Name.{is_name}
 use Rattle.om_model.specs.Words.{structure_of_word, spin_of_word}
-use Rattle.om_model.specs.ProcessText.{field_named}
+use Rattle.om_model.specs.FieldNames.{field_named}
 use Rattle.om_model.specs.declared.model.Particle.{Particle}
 use Rattle.om_code.specs.Plain.{field_name, IsNamed, IsProduct}
 use Rattle.om_asm.specs.declared.fault.AsmKind.TheVariants.{Grammar}
 use Rattle.om_program_text.specs.ProgramText.{Words}
 use Rattle.om_program_text.specs.Words.{spin_word, structure_word, colour_word, product_word}
-use Rattle.om_asm.specs.Lines.{◌>>=◌}
+use Rattle.om_ring.specs.OptionSteps.{◌>>=◌}
 use Rattle.om_asm.specs.Lists.{list_from}
 use Rattle.om_asm.specs.Reading.{name_of, colour_of, canonical, factor_of, product_of, known, named}
 use Rattle.om_asm.proofs.SpeltLemmas.{bytes_same}

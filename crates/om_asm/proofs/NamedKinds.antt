@@ -10,7 +10,7 @@ use Rattle.om_colour.specs.declared.Colour.{Colour}
 use Rattle.om_legs.specs.Legs.{IsLegSet}
 use Rattle.om_model.specs.Name.{is_name}
 use Rattle.om_model.specs.Words.{spin_of_word, structure_of_word}
-use Rattle.om_model.specs.ProcessText.{field_named}
+use Rattle.om_model.specs.FieldNames.{field_named}
 use Rattle.om_model.specs.declared.model.Particle.{Particle}
 use Rattle.om_model.specs.declared.model.Vertex.{Vertex}
 use Rattle.om_code.specs.declared.code.Den.{Den}
@@ -19,8 +19,9 @@ use Rattle.om_asm.specs.declared.fault.AsmKind.TheVariants.{Grammar, Name}
 use Rattle.om_program_text.specs.ProgramText.{Words}
 use Rattle.om_program_text.specs.Words.{structure_word, product_word, set_word}
 use Rattle.om_asm.specs.Lines.{word_by, no_more, next_word}
-use Rattle.om_asm.specs.Spelt.{number_of}
-use Rattle.om_asm.specs.Rows.{◌>>=◌, formed}
+use Rattle.om_ring.specs.Spelt.{decimal_below}
+use Rattle.om_asm.specs.Rows.{formed}
+use Rattle.om_ring.specs.ResultSteps.{◌>>=◌}
 use Rattle.om_asm.specs.Reading.{name_of, colour_of, product_of, set_of, known, named, leg_row, den_row, particle_row}
 use Rattle.om_asm.specs.Slots.{slot_of, fourth_slot, factors_of}
 use Rattle.om_asm.specs.Vertices.{vertex_row}
@@ -156,8 +157,10 @@ leg_kind ps ws kind e = both_ways (leg_row ps ws) kind (codes "leg" ∷ ws) e fo
         let m = went_well (no_more n.0.1) (λ _. named ps n.0.0) n.2 in
         let line = next_is ws n.0 n.1 ∙ ap (λ (v : Words). n.0.0 ∷ v) (none_more n.0.1 m.0 m.1) in
         inr (inl (record { name = n.0.0; named = name_only (is_name n.0.0) (field_named ps n.0.0) m.2; texts = ap (λ (v : Words). codes "leg" ∷ v) line }))
+
     one : (name : List ℕ) (k : AsmKind) → IsName name → leg_row ps (name ∷ []) ≡ Err k → k ≡ Name
     one name k n f = named_kind ps name k n f
+
     back : NamesFields (codes "leg" ∷ ws) → (k : AsmKind) → leg_row ps ws ≡ Err k → k ≡ Name
     back form k f = let l = leg_only ws form in one l.name k l.named (ap (leg_row ps) (sym (ap tail l.texts)) ∙ f)
 
@@ -170,6 +173,7 @@ den_kind ps ws kind e = both_ways (den_row ps ws) kind (codes "den" ∷ ws) e fo
     unknown : (set : ℕ) (r : Result ℕ AsmKind) (k : AsmKind) → (r >>= λ field. Ok (a_den set field)) ≡ Err k → r ≡ Err k
     unknown set (Ok f) k h = absurd cc
     unknown set (Err d) k h = cc
+
     forth : den_row ps ws ≡ Err Name → NamesFields (codes "den" ∷ ws)
     forth f =
         let s = went_well (word_by set_of ws) (λ set. formed (next_word set.1) >>= λ name. formed (no_more name.1) >>= λ _. named ps name.0 >>= λ field. Ok (a_den set.0 field)) f in
@@ -180,10 +184,12 @@ den_kind ps ws kind e = both_ways (den_row ps ws) kind (codes "den" ∷ ws) e fo
         let rest = next_is s.0.1 n.0 n.1 ∙ ap (λ (v : Words). n.0.0 ∷ v) (none_more n.0.1 m.0 m.1) in
         let line = w.1 ∙ ap (λ (v : List ℕ). v ∷ s.0.1) (sym l.0) ∙ ap (λ (v : Words). set_word s.0.0 ∷ v) rest in
         inr (inr (record { set = s.0.0; name = n.0.0; some = l.1.0; legs = l.1.1; named = name_only (is_name n.0.0) (field_named ps n.0.0) (unknown s.0.0 (named ps n.0.0) Name m.2); texts = ap (λ (v : Words). codes "den" ∷ v) line }))
+
     one : (set : ℕ) (name : List ℕ) (k : AsmKind) → 1 ≤ set → IsLegSet set → IsName name → den_row ps (set_word set ∷ name ∷ []) ≡ Err k → k ≡ Name
     one set name k some legs n f =
         let read = say set_of (set_word set) set (name ∷ []) (λ set. formed (next_word set.1) >>= λ name. formed (no_more name.1) >>= λ _. named ps name.0 >>= λ field. Ok (a_den set.0 field)) (set_again set legs some) in
         named_kind ps name k n (unknown set (named ps name) k (sym read ∙ f))
+
     back : NamesFields (codes "den" ∷ ws) → (k : AsmKind) → den_row ps ws ≡ Err k → k ≡ Name
     back form k f = let l = den_only ws form in one l.set l.name k l.some l.legs l.named (ap (den_row ps) (sym (ap tail l.texts)) ∙ f)
 
@@ -218,14 +224,17 @@ fourth_form ps s o wa wb wc a b c words na nb nc e =
     let d = went_well (fourth_slot ps words) (λ d. formed (factors_of d.1) >>= λ factors. from_fields s o a b c d.0 factors) e in
     let f = went_well (factors_of d.0.1) (λ factors. from_fields s o a b c d.0.0 factors) d.2 in
     let w = fourth_named ps words d.0.0 d.0.1 (fourth_found ps words d.0 d.1) in
-    let r = factors_found d.0.1 f.0 f.1 in
-    (wa ∷ wb ∷ wc ∷ w.0, f.0, record {
-      three = omega arith;
-      four = let n = w.1.few in omega arith;
-      named = (na, (nb, (nc, w.1.named)));
-      read = subst (λ (ws : Words). AreFactors ws f.0) (sym r.texts) r;
-      texts = ap (λ (ws : Words). wa ∷ wb ∷ wc ∷ ws) (w.1.texts ∙ ap (λ (ws : Words). w.0 ++ codes ":" ∷ ws) (sym r.texts));
-    })
+    let r = factors_found d.0.1 f.0 f.1 in (
+      wa ∷ wb ∷ wc ∷ w.0,
+      f.0,
+      record {
+        three = omega arith;
+        four = let n = w.1.few in omega arith;
+        named = (na, (nb, (nc, w.1.named)));
+        read = subst (λ (ws : Words). AreFactors ws f.0) (sym r.texts) r;
+        texts = ap (λ (ws : Words). wa ∷ wb ∷ wc ∷ ws) (w.1.texts ∙ ap (λ (ws : Words). w.0 ++ codes ":" ∷ ws) (sym r.texts));
+      },
+    )
 
 slots_form : (ps : List Particle) (s : Structure) (o : ℕ) (words : Words) → from_first ps s o words ≡ Err Name → (names : Words) × (factors : List (List Numeral)) × SlotForm words names factors
 slots_form ps s o words e =
@@ -242,11 +251,11 @@ slots_form ps s o words e =
 vertex_form : (ps : List Particle) (ws : Words) → vertex_row ps ws ≡ Err Name → IsVertexForm (codes "vertex" ∷ ws)
 unfolding vertex_row
 vertex_form ps ws e =
-    let s = went_well (word_by structure_of_word ws) (λ s. formed (word_by (number_of 256) s.1) >>= λ o. from_first ps s.0 o.0 o.1) e in
-    let o = went_well (word_by (number_of 256) s.0.1) (λ o. from_first ps s.0.0 o.0 o.1) s.2 in
+    let s = went_well (word_by structure_of_word ws) (λ s. formed (word_by (decimal_below 256) s.1) >>= λ o. from_first ps s.0 o.0 o.1) e in
+    let o = went_well (word_by (decimal_below 256) s.0.1) (λ o. from_first ps s.0.0 o.0 o.1) s.2 in
     let ws0 = by_word structure_of_word ws s.0 s.1 in
     let ls = structure_spells ws0.0 s.0.0 ws0.2 in
-    let wo = by_word (number_of 256) s.0.1 o.0 o.1 in
+    let wo = by_word (decimal_below 256) s.0.1 o.0 o.1 in
     let lo = (number_law 256 (omega arith)).found wo.0 o.0.0 wo.2 in
     let f = slots_form ps s.0.0 o.0.0 o.0.1 o.2 in
     let order = wo.1 ∙ ap (λ (v : List ℕ). v ∷ o.0.1) (sym lo.0) ∙ ap (λ (v : Words). decimal o.0.0 ∷ v) f.2.texts in

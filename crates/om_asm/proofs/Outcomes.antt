@@ -6,7 +6,8 @@ use Rattle.std.proofs.Common.{◌≡◌, ℕ, ◌+◌, ◌<◌, ◌≤◌, List,
 use Rattle.std.proofs.lemmas.List.{length-append}
 use Rattle.om_program_text.specs.ProgramText.{Words}
 use Rattle.om_asm.specs.Lines.{At}
-use Rattle.om_asm.specs.Rows.{BadLine, place, ◌>>=◌}
+use Rattle.om_asm.specs.Rows.{BadLine, place}
+use Rattle.om_ring.specs.ResultSteps.{◌>>=◌}
 
 -- what is read ends behind a line, or is bad there
 abbrev pub Beyond : {A : Type 0} → ℕ → Result (A × At) BadLine → Type 0
@@ -23,7 +24,7 @@ pub data Outcome {A : Type 0} (read : At → Result (A × At) BadLine) (leads fi
   fails : (e : BadLine) → n ≤ e.line → e.line < n + length front → ((ls : List Words) → read (place n (front ++ ls)) ≡ Err e) → Outcome read leads fits n front
   stops : (x : A) (m : ℕ) (back : List Words) → 1 ≤ length back → n ≤ m → m + length back ≡ n + length front → ((ls : List Words) → read (place n (front ++ ls)) ≡ Ok (x, place m (back ++ ls))) → Outcome read leads fits n front
   goes : (x : A) (more : List Words) → (front ≡ [] → (ls : List Words) → fits ls → leads (more ++ ls)) → ((ls : List Words) → fits ls → read (place n (front ++ (more ++ ls))) ≡ Ok (x, place (n + length front + length more) ls))
-    → ((ls : List Words) → Beyond (n + length front) (read (place n (front ++ ls)))) → AtEnd (n + length front) (read (place n (front ++ []))) → Outcome read leads fits n front
+      → ((ls : List Words) → Beyond (n + length front) (read (place n (front ++ ls)))) → AtEnd (n + length front) (read (place n (front ++ []))) → Outcome read leads fits n front
 
 abbrev pub Outcomes : {A : Type 0} → (At → Result (A × At) BadLine) → (List Words → Type 0) → (List Words → Type 0) → Type 0
 Outcomes read leads fits = (n : ℕ) (front : List Words) → Outcome read leads fits n front
@@ -73,6 +74,7 @@ module _ {A B : Type 0} (read : At → Result (A × At) BadLine) (next : A → A
     where
       here : n + 0 ≡ n
       here = omega arith
+
       by : Outcome (next x) mid fits n [] → Opens x n
       by (fails e l u h) = absurd (omega arith)
       by (stops y m back b l u h) = absurd (omega arith)
@@ -114,6 +116,7 @@ module _ {A B : Type 0} (read : At → Result (A × At) BadLine) (next : A → A
           (λ ls f. ap then (h (more ++ ls)) ∙ g ls f ∙ ap (λ k. a_line y (k + length more) ls) u)
           (λ ls. subst (λ r. Beyond (n + length front) r) (sym (ap then (h ls))) (subst (λ k. Beyond k (next x (place m (back ++ ls)))) u (beyond ls)))
           (subst (λ r. AtEnd (n + length front) r) (sym (ap then (h []))) (subst (λ k. AtEnd k (next x (place m (back ++ [])))) u last))
+
       first : Outcome read leads mid n front → Outcome both leads fits n front
       first (fails e l u h) = fails e l u (λ ls. ap then (h ls))
       first (stops x m back b l u h) = second x m back b l u h (p x m back)
@@ -122,6 +125,6 @@ module _ {A B : Type 0} (read : At → Result (A × At) BadLine) (next : A → A
           goes q.value (more ++ q.more)
           (λ none ls f. subst leads (sym (append_assoc more q.more ls)) (ends none (q.more ++ ls) (q.ends ls f)))
           (λ ls f. ap (λ (l : List Words). both (place n l)) (regroup front more q.more ls) ∙ ap then (h (q.more ++ ls) (q.ends ls f)) ∙ q.law ls f
-            ∙ ap (λ k. a_line q.value k ls) (let e : n + length front + length more + length q.more ≡ n + length front + length (more ++ q.more) = omega (arith, length-append more q.more) in e))
+          ∙ ap (λ k. a_line q.value k ls) (let e : n + length front + length more + length q.more ≡ n + length front + length (more ++ q.more) = omega (arith, length-append more q.more) in e))
           (λ ls. then_beyond p (n + length front) (read (place n (front ++ ls))) (beyond ls))
           (then_last p (n + length front) (read (place n (front ++ []))) last)

@@ -13,13 +13,14 @@ use Rattle.om_asm.specs.declared.fault.AsmKind.TheVariants.{Grammar, Name}
 use Rattle.om_asm.specs.declared.reader.Process.{Process}
 use Rattle.om_program_text.specs.ProgramText.{Words}
 use Rattle.om_asm.specs.Lines.{At, first_line}
-use Rattle.om_asm.specs.Spelt.{number_of}
+use Rattle.om_ring.specs.Spelt.{decimal_below}
 use Rattle.om_asm.specs.Heads.{version_word, version_of, model_name_of, slots_of, end_of}
 use Rattle.om_asm.specs.Reading.{name_of, particle_row, leg_row, den_row}
 use Rattle.om_asm.specs.Vertices.{vertex_row}
 use Rattle.om_asm.specs.Flows.{flow_line}
 use Rattle.om_asm.specs.Instrs.{load_of, fuse_of, prop_of, key_of}
-use Rattle.om_asm.specs.Rows.{BadLine, bad, place, rows_from, behind, formed, ◌>>=◌, is_load, is_fuse, is_step, is_key, load_row, step_row, key_row, instrs_at}
+use Rattle.om_asm.specs.Rows.{BadLine, bad, place, rows_from, behind, formed, is_load, is_fuse, is_step, is_key, load_row, step_row, key_row, instrs_at}
+use Rattle.om_ring.specs.ResultSteps.{◌>>=◌}
 use Rattle.om_asm.specs.Program.{one_line, line_or_bad, rows_at, particles_at, slots_at, process_at, program_at}
 use Rattle.om_asm.specs.FirstBad.{line_at, NamesFields, NamesInPlace, group_of, group_of_word}
 use Rattle.om_asm.proofs.SpeltLemmas.{same_bytes, bytes_same}
@@ -134,22 +135,22 @@ module _ (lines : List Words) where
     where
       by : (b : Bool) → Judges lines 7 (cond b (let y : ℕ × At = (0, a) in Ok y) (one_line slots_of a))
       by true = skipped lines 6 a s (omega arith)
-      by false = line_judges lines slots_of 6 a (omega arith) (keyed_none (codes "slots") (number_of (2 ^ 32))) (λ l x e. ap group_of (slots_line_found l x e).0) s
+      by false = line_judges lines slots_of 6 a (omega arith) (keyed_none (codes "slots") (decimal_below (2 ^ 32))) (λ l x e. ap group_of (slots_line_found l x e).0) s
 
   instrs_judge : (version : ℕ) (a : At) → Stands lines 7 a → Judges lines 10 (instrs_at version a)
   unfolding instrs_at
   instrs_judge version a s =
       then_judges lines 8 10 (rows_from (λ _ w. is_load w) (load_row version) 0 a.number a.lines) from_steps (rows_judge lines (λ _ w. is_load w) (load_row version) 7 (loads_group version) 0 a.number a.lines s)
       (λ loads b t. then_judges lines 9 10 (behind loads (rows_from (λ _ w. is_step w) step_row (length loads) b.number b.lines)) (λ steps d. behind steps (rows_from (λ _ w. is_key w) key_row (length steps) d.number d.lines))
-        (made_judges lines 9 (rows_from (λ _ w. is_step w) step_row (length loads) b.number b.lines) (λ (is : List Instr). loads ++ is) (rows_judge lines (λ _ w. is_step w) step_row 8 steps_group (length loads) b.number b.lines t))
-        (λ steps d u. made_judges lines 10 (rows_from (λ _ w. is_key w) key_row (length steps) d.number d.lines) (λ (is : List Instr). steps ++ is) (rows_judge lines (λ _ w. is_key w) key_row 9 keys_group (length steps) d.number d.lines u)))
+      (made_judges lines 9 (rows_from (λ _ w. is_step w) step_row (length loads) b.number b.lines) (λ (is : List Instr). loads ++ is) (rows_judge lines (λ _ w. is_step w) step_row 8 steps_group (length loads) b.number b.lines t))
+      (λ steps d u. made_judges lines 10 (rows_from (λ _ w. is_key w) key_row (length steps) d.number d.lines) (λ (is : List Instr). steps ++ is) (rows_judge lines (λ _ w. is_key w) key_row 9 keys_group (length steps) d.number d.lines u)))
 
   process_judge : (ps : List Particle) (a : At) → Stands lines 3 a → Judges lines 6 (process_at ps a)
   unfolding process_at
   process_judge ps a s =
       then_judges lines 4 6 (rows_at (codes "leg") (leg_row ps) a) (from_flows ps) (rows_judge lines (by_key (codes "leg")) (λ _ words. leg_row ps words) 3 (legs_group ps) 0 a.number a.lines s)
       (λ legs b t. then_judges lines 5 6 (rows_at (codes "flow") (λ words. formed (flow_line words)) b) (from_dens ps legs) (rows_judge lines (by_key (codes "flow")) (λ _ words. formed (flow_line words)) 4 flows_group 0 b.number b.lines t)
-        (λ flows d u. made_judges lines 6 (rows_at (codes "den") (den_row ps) d) (a_process legs flows) (rows_judge lines (by_key (codes "den")) (λ _ words. den_row ps words) 5 (dens_group ps) 0 d.number d.lines u)))
+      (λ flows d u. made_judges lines 6 (rows_at (codes "den") (den_row ps) d) (a_process legs flows) (rows_judge lines (by_key (codes "den")) (λ _ words. den_row ps words) 5 (dens_group ps) 0 d.number d.lines u)))
 
   end_judge : (c : Code) (a : At) → Stands lines 10 a → Judges lines 11 (with_end c a)
   end_judge c a s = made_judges lines 11 (one_line end_of a) (λ _. c) (line_judges lines end_of 10 a (omega arith) end_none (λ l x e. ap group_of (end_found l x e)) s)
@@ -158,10 +159,10 @@ module _ (lines : List Words) where
   rest_judge version name a s =
       then_judges lines 2 11 (particles_at a) (from_vertices version name) (rows_judge lines few (λ _ words. particle_row words) 1 particles_group 0 a.number a.lines s)
       (λ ps b t. then_judges lines 3 11 (rows_at (codes "vertex") (vertex_row ps) b) (from_process version name ps) (rows_judge lines (by_key (codes "vertex")) (λ _ words. vertex_row ps words) 2 (vertices_group ps) 0 b.number b.lines t)
-        (λ vs d u. then_judges lines 6 11 (process_at ps d) (from_slots version name ps vs) (process_judge ps d u)
-          (λ p f v. then_judges lines 7 11 (slots_at version f) (from_instrs version name ps vs p) (slots_judge version f v)
-            (λ slots g w. then_judges lines 10 11 (instrs_at version g) (λ is. with_end (a_code version name ps vs p slots is)) (instrs_judge version g w)
-              (λ is h x. end_judge (a_code version name ps vs p slots is) h x)))))
+      (λ vs d u. then_judges lines 6 11 (process_at ps d) (from_slots version name ps vs) (process_judge ps d u)
+      (λ p f v. then_judges lines 7 11 (slots_at version f) (from_instrs version name ps vs p) (slots_judge version f v)
+      (λ slots g w. then_judges lines 10 11 (instrs_at version g) (λ is. with_end (a_code version name ps vs p slots is)) (instrs_judge version g w)
+      (λ is h x. end_judge (a_code version name ps vs p slots is) h x)))))
 
   -- ---- what the kind says, by the numbers of lines
 
@@ -180,8 +181,7 @@ module _ (lines : List Words) where
   told : (e : BadLine) → Judged lines e → Told e
   told e j =
       let last : line_at (e.line - 2) lines ≡ j.last = ap (λ k. line_at k lines) (let n : e.line - 2 ≡ length j.before = omega (arith, j.number) in n) ∙ ap (line_at (length j.before)) j.parts ∙ at_last j.before j.last j.here in
-      let here : line_at (e.line - 1) lines ≡ first_line j.here = ap (λ k. line_at k lines) (let n : e.line - 1 ≡ length j.before + 1 = omega (arith, j.number) in n) ∙ ap (line_at (length j.before + 1)) j.parts ∙ at_here j.before j.last j.here in
-      (
+      let here : line_at (e.line - 1) lines ≡ first_line j.here = ap (λ k. line_at k lines) (let n : e.line - 1 ≡ length j.before + 1 = omega (arith, j.number) in n) ∙ ap (line_at (length j.before + 1)) j.parts ∙ at_here j.before j.last j.here in (
         λ n. (omega (arith, j.number, j.some), subst (λ (l : Words). NamesInPlace l (line_at (e.line - 1) lines)) (sym last) (subst (λ (l : Words). NamesInPlace j.last l) (sym here) (j.kind.0 n))),
         λ f. j.kind.1 (subst (λ (l : Words). NamesInPlace j.last l) here (subst (λ (l : Words). NamesInPlace l (line_at (e.line - 1) lines)) last f.1)),
       )

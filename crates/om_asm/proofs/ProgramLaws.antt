@@ -19,7 +19,8 @@ use Rattle.om_asm.specs.Heads.{version_of, version_word, model_name_of, end_of}
 use Rattle.om_asm.specs.Reading.{name_of, particle_row, leg_row, den_row}
 use Rattle.om_asm.specs.Vertices.{vertex_row}
 use Rattle.om_asm.specs.Flows.{flow_line}
-use Rattle.om_asm.specs.Rows.{BadLine, bad, ◌>>=◌, formed, instrs_at}
+use Rattle.om_asm.specs.Rows.{BadLine, bad, formed, instrs_at}
+use Rattle.om_ring.specs.ResultSteps.{◌>>=◌}
 use Rattle.om_asm.specs.Program.{one_line, rows_at, particles_at, slots_at, end_at, process_at, slots_number, program_at}
 use Rattle.om_legs.specs.Legs.{IsLegSet}
 use Rattle.om_model.specs.Name.{is_name}

@@ -16,7 +16,8 @@ use Rattle.om_asm.specs.Heads.{version_word, version_of, model_name_of, end_of}
 use Rattle.om_asm.specs.Reading.{name_of, particle_row, leg_row, den_row}
 use Rattle.om_asm.specs.Vertices.{vertex_row}
 use Rattle.om_asm.specs.Flows.{flow_line}
-use Rattle.om_asm.specs.Rows.{BadLine, bad, place, rows_from, ◌>>=◌, formed, instrs_at}
+use Rattle.om_asm.specs.Rows.{BadLine, bad, place, rows_from, formed, instrs_at}
+use Rattle.om_ring.specs.ResultSteps.{◌>>=◌}
 use Rattle.om_asm.specs.Program.{one_line, rows_at, particles_at, slots_at, end_at, process_at, program_at}
 use Rattle.om_asm.proofs.OneLine.{keyed_none, end_none}
 use Rattle.om_asm.proofs.HeadsAgain.{version_again, model_again, end_of_again, finished}
@@ -58,7 +59,7 @@ unfolding process_at
 process_outcome ps =
     one_by_one (rows_at (codes "leg") (leg_row ps)) (from_flows ps) Ends Ends Ends (legs_outcome ps)
     (λ legs. one_by_one (rows_at (codes "flow") (λ words. formed (flow_line words))) (from_dens ps legs) Ends Ends Ends flows_outcome
-      (λ flows. made_of (rows_at (codes "den") (den_row ps)) (a_process legs flows) Ends Ends (dens_outcome ps)))
+    (λ flows. made_of (rows_at (codes "den") (den_row ps)) (a_process legs flows) Ends Ends (dens_outcome ps)))
 
 -- ---- the whole
 
@@ -97,10 +98,10 @@ rest_outcome : (version : ℕ) (name : List ℕ) → Outcomes (from_particles ve
 rest_outcome version name =
     one_by_one particles_at (from_vertices version name) Ends Ends Anything particles_outcome
     (λ ps. one_by_one (rows_at (codes "vertex") (vertex_row ps)) (from_process version name ps) Ends Ends Anything (vertices_outcome ps)
-      (λ vs. one_by_one (process_at ps) (from_slots version name ps vs) Ends Ends Anything (process_outcome ps)
-        (λ p. one_by_one (slots_at version) (from_instrs version name ps vs p) Ends Ends Anything (slots_outcome version)
-          (λ s. one_by_one (instrs_at version) (λ is. with_end (a_code version name ps vs p s is)) Ends Ends Anything (instrs_outcome version)
-            (λ is. end_outcome (a_code version name ps vs p s is))))))
+    (λ vs. one_by_one (process_at ps) (from_slots version name ps vs) Ends Ends Anything (process_outcome ps)
+    (λ p. one_by_one (slots_at version) (from_instrs version name ps vs p) Ends Ends Anything (slots_outcome version)
+    (λ s. one_by_one (instrs_at version) (λ is. with_end (a_code version name ps vs p s is)) Ends Ends Anything (instrs_outcome version)
+    (λ is. end_outcome (a_code version name ps vs p s is))))))
 
 name_outcome : (version : ℕ) → Outcomes (from_name version) Anything Anything
 name_outcome version =
@@ -151,7 +152,7 @@ module _ (version : ℕ) (name : List ℕ) (ps : List Particle) (vs : List Verte
   tail_pushed a =
       push (slots_at version a) (λ s. from_instrs version name ps vs p s.0 s.1) (λ s. ends_instrs s.0 s.1)
       (λ s. push (instrs_at version s.1) (λ is. with_end (a_code version name ps vs p s.0 is.0) is.1) (λ is. end_at is.1 >>= λ _. Ok (a_code version name ps vs p s.0 is.0))
-        (λ is. end_pushed (a_code version name ps vs p s.0 is.0) (one_line end_of is.1)))
+      (λ is. end_pushed (a_code version name ps vs p s.0 is.0) (one_line end_of is.1)))
 
 abbrev ends_process : ℕ → List ℕ → List Particle → List Vertex → At → Result Code BadLine
 ends_process version name ps vs a = process_at ps a >>= λ p. ends_slots version name ps vs p.0 p.1
@@ -169,8 +170,8 @@ rest_pushed : (version : ℕ) (name : List ℕ) (a : At) → finish (from_partic
 rest_pushed version name a =
     push (particles_at a) (λ ps. from_vertices version name ps.0 ps.1) (λ ps. ends_vertices version name ps.0 ps.1)
     (λ ps. push (rows_at (codes "vertex") (vertex_row ps.0) ps.1) (λ vs. from_process version name ps.0 vs.0 vs.1) (λ vs. ends_process version name ps.0 vs.0 vs.1)
-      (λ vs. push (process_at ps.0 vs.1) (λ p. from_slots version name ps.0 vs.0 p.0 p.1) (λ p. ends_slots version name ps.0 vs.0 p.0 p.1)
-        (λ p. tail_pushed version name ps.0 vs.0 p.0 p.1)))
+    (λ vs. push (process_at ps.0 vs.1) (λ p. from_slots version name ps.0 vs.0 p.0 p.1) (λ p. ends_slots version name ps.0 vs.0 p.0 p.1)
+    (λ p. tail_pushed version name ps.0 vs.0 p.0 p.1)))
 
 -- a program is what stands up to its end, where nothing follows
 pub program_is : (a : At) → finish (up_to_end a) ≡ program_at a
@@ -178,4 +179,4 @@ unfolding program_at
 program_is a =
     push (one_line version_of a) (λ v. from_name v.0 v.1) (λ v. ends_name v.0 v.1)
     (λ v. push (one_line model_name_of v.1) (λ n. from_particles v.0 n.0 n.1) (λ n. ends_particles v.0 n.0 n.1)
-      (λ n. rest_pushed v.0 n.0 n.1))
+    (λ n. rest_pushed v.0 n.0 n.1))

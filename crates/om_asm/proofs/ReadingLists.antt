@@ -3,7 +3,7 @@ use Rattle.std.proofs.Common.{◌≡◌, ℕ, ◌+◌, ◌<◌, ◌≤◌, ltb, 
 use Rattle.std.proofs.lemmas.Bool.{lt-ltb, le-ltb}
 use Rattle.std.proofs.lemmas.List.{length-append}
 use Rattle.om_program_text.specs.ProgramText.{Words}
-use Rattle.om_asm.specs.Lines.{◌>>=◌}
+use Rattle.om_ring.specs.OptionSteps.{◌>>=◌}
 use Rattle.om_asm.specs.Lists.{list_from}
 use Rattle.std.specs.Prelude.{Ok, Err}
 use Rattle.om_asm.specs.declared.fault.AsmKind.{AsmKind}

@@ -8,7 +8,8 @@ use Rattle.om_asm.specs.declared.fault.LineFault.{LineFault}
 use Rattle.om_asm.specs.declared.fault.LineFault.TheVariants as line_faults
 use Rattle.om_program_text.specs.ProgramText.{Words}
 use Rattle.om_asm.specs.Lines.{At, first_line, Advances}
-use Rattle.om_asm.specs.Rows.{BadLine, bad, place, rows_from, behind, Gives, IsAtLine, GivesMore, ◌>>=◌}
+use Rattle.om_asm.specs.Rows.{BadLine, bad, place, rows_from, behind, Gives, IsAtLine, GivesMore}
+use Rattle.om_ring.specs.ResultSteps.{◌>>=◌}
 
 pub split_lines : (lines : List Words) (w : List ℕ) (ws : Words) → w ∷ ws ≡ first_line lines → lines ≡ (w ∷ ws) ∷ drop 1 lines
 split_lines [] w ws e = cc

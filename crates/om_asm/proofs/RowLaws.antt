@@ -4,7 +4,8 @@ use Rattle.std.specs.List.{AllByRecursion}
 use Rattle.om_asm.specs.declared.fault.AsmKind.{AsmKind}
 use Rattle.om_program_text.specs.ProgramText.{Words}
 use Rattle.om_asm.specs.Lines.{At}
-use Rattle.om_asm.specs.Rows.{BadLine, place, rows_from, at_line, formed, ◌>>=◌}
+use Rattle.om_asm.specs.Rows.{BadLine, place, rows_from, at_line, formed}
+use Rattle.om_ring.specs.ResultSteps.{◌>>=◌}
 
 pub bind_ok : {A B F : Type 0} (r : Result A F) (f : A → Result B F) (y : B) → (r >>= f) ≡ Ok y → (x : A) × (r ≡ Ok x) × (f x ≡ Ok y)
 bind_ok (Ok x) f y e = (x, refl, e)

@@ -8,7 +8,8 @@ use Rattle.om_model.specs.declared.model.Particle.{Particle}
 use Rattle.om_code.specs.Plain.{field_name, IsNamed}
 use Rattle.om_program_text.specs.ProgramText.{Words}
 use Rattle.om_program_text.specs.Words.{product_word}
-use Rattle.om_asm.specs.Lines.{◌>>=◌, word_by}
+use Rattle.om_asm.specs.Lines.{word_by}
+use Rattle.om_ring.specs.OptionSteps.{◌>>=◌}
 use Rattle.om_asm.specs.Spelt.{literal}
 use Rattle.om_asm.specs.Lists.{list_from}
 use Rattle.om_asm.specs.Reading.{product_of}

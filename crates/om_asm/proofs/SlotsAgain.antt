@@ -5,17 +5,17 @@ use Rattle.std.specs.Str.{bytes_eq}
 use Rattle.std.proofs.lemmas.Bool.Decides.{nat_tests}
 use Rattle.om_ring.specs.declared.numeral.Numeral.{Numeral}
 use Rattle.om_model.specs.Name.{is_name}
-use Rattle.om_model.specs.ProcessText.{field_named}
+use Rattle.om_model.specs.FieldNames.{field_named}
 use Rattle.om_model.specs.declared.model.Particle.{Particle}
 use Rattle.om_code.specs.Plain.{field_name, IsNamed}
 use Rattle.om_program_text.specs.ProgramText.{Words}
 use Rattle.om_program_text.specs.Words.{product_word}
-use Rattle.om_asm.specs.Lines.{◌>>=◌}
+use Rattle.om_ring.specs.OptionSteps.{◌>>=◌}
 use Rattle.om_asm.specs.Reading.{product_of}
 use Rattle.om_asm.specs.Slots.{slot_of, fourth_slot, factors_of}
 use Rattle.om_asm.proofs.SpeltLemmas.{same_bytes}
 use Rattle.om_asm.specs.FirstBad.{IsReadableProduct}
-use Rattle.om_asm.proofs.ModelWordsAgain.{ product_again, list_again}
+use Rattle.om_asm.proofs.ModelWordsAgain.{product_again, list_again}
 use Rattle.om_asm.specs.InRange.{ParticleInRange}
 use Rattle.om_asm.proofs.LinesAgain.{means_field}
 

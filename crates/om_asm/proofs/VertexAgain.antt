@@ -5,7 +5,7 @@ use Rattle.std.proofs.lemmas.List.{length-map}
 use Rattle.om_ring.specs.declared.numeral.Numeral.{Numeral}
 use Rattle.om_lorentz.specs.declared.structures.Structure.{Structure}
 use Rattle.om_model.specs.Words.{structure_of_word}
-use Rattle.om_model.specs.ProcessText.{field_named}
+use Rattle.om_model.specs.FieldNames.{field_named}
 use Rattle.om_model.specs.declared.model.Particle.{Particle}
 use Rattle.om_model.specs.declared.model.Vertex.{Vertex}
 use Rattle.om_code.specs.Plain.{field_name, IsNamed, IsProduct, IsPlainVertex}
@@ -14,8 +14,9 @@ use Rattle.om_asm.specs.declared.fault.AsmKind.TheVariants.{Grammar, Name}
 use Rattle.om_program_text.specs.ProgramText.{Words}
 use Rattle.om_program_text.specs.Words.{structure_word, product_word}
 use Rattle.om_asm.specs.Lines.{word_by}
-use Rattle.om_asm.specs.Spelt.{number_of}
-use Rattle.om_asm.specs.Rows.{◌>>=◌, formed}
+use Rattle.om_ring.specs.Spelt.{decimal_below}
+use Rattle.om_asm.specs.Rows.{formed}
+use Rattle.om_ring.specs.ResultSteps.{◌>>=◌}
 use Rattle.om_asm.specs.Slots.{slot_of, fourth_slot, factors_of}
 use Rattle.om_asm.specs.Vertices.{known_fields, vertex_row}
 use Rattle.om_asm.proofs.WordLaws.{number_law}
@@ -85,8 +86,8 @@ pub vertex_said : (ps : List Particle) (s : Structure) (o : ℕ) (names : Words)
 unfolding vertex_row
 vertex_said ps s o names fs small n least most p some few =
     let slots = names ++ codes ":" ∷ map product_word fs in
-    say structure_of_word (structure_word s) s (decimal o ∷ slots) (λ s. formed (word_by (number_of 256) s.1) >>= λ o. from_first ps s.0 o.0 o.1) (structure_again s)
-    ∙ say (number_of 256) (decimal o) o slots (λ o. from_first ps s o.0 o.1) ((number_law 256 (omega arith)).again o small)
+    say structure_of_word (structure_word s) s (decimal o ∷ slots) (λ s. formed (word_by (decimal_below 256) s.1) >>= λ o. from_first ps s.0 o.0 o.1) (structure_again s)
+    ∙ say (decimal_below 256) (decimal o) o slots (λ o. from_first ps s o.0 o.1) ((number_law 256 (omega arith)).again o small)
     ∙ slots_said ps s o names fs n least most p some few
 
 known_kind : (s : Structure) (o : ℕ) (fs : List (List Numeral)) (a b c : Option ℕ) (d : Option (Option ℕ)) (k : AsmKind) → (known_fields a b c d >>= λ fields. a_vertex s fields fs o) ≡ Err k → k ≡ Name

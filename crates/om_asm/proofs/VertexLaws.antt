@@ -10,8 +10,9 @@ use Rattle.om_asm.specs.declared.fault.AsmKind.{AsmKind}
 use Rattle.om_program_text.specs.ProgramText.{Words, vertex_words}
 use Rattle.om_program_text.specs.Words.{structure_word, product_word}
 use Rattle.om_asm.specs.Lines.{word_by}
-use Rattle.om_asm.specs.Spelt.{number_of}
-use Rattle.om_asm.specs.Rows.{◌>>=◌, formed}
+use Rattle.om_ring.specs.Spelt.{decimal_below}
+use Rattle.om_asm.specs.Rows.{formed}
+use Rattle.om_ring.specs.ResultSteps.{◌>>=◌}
 use Rattle.om_asm.specs.Slots.{slot_of, fourth_slot, factors_of}
 use Rattle.om_asm.specs.Vertices.{known_fields, vertex_row}
 use Rattle.om_asm.proofs.WordLaws.{number_law}
@@ -96,6 +97,6 @@ by_head ps s o v words rest0 rest1 small e f h =
 pub vertex_found : (ps : List Particle) (words : Words) (v : Vertex) → vertex_row ps words ≡ Ok v → (codes "vertex" ∷ words ≡ vertex_words ps v) × IsPlainVertex ps v × VertexInRange v
 unfolding vertex_row
 vertex_found ps words v e =
-    let s = said structure_of_word structure_word (λ _. Unit {0}) structure_spells words (λ s. formed (word_by (number_of 256) s.1) >>= λ o. from_first ps s.0 o.0 o.1) v e in
-    let o = said (number_of 256) decimal (λ n. n < 256) (number_law 256 (omega arith)).found s.1 (λ o. from_first ps s.0 o.0 o.1) v s.4 in
+    let s = said structure_of_word structure_word (λ _. Unit {0}) structure_spells words (λ s. formed (word_by (decimal_below 256) s.1) >>= λ o. from_first ps s.0 o.0 o.1) v e in
+    let o = said (decimal_below 256) decimal (λ n. n < 256) (number_law 256 (omega arith)).found s.1 (λ o. from_first ps s.0 o.0 o.1) v s.4 in
     by_head ps s.0 o.0 v words s.1 o.1 o.3 s.2 o.2 (slots_read ps s.0 o.0 o.1 v o.4)

@@ -5,10 +5,13 @@ use Rattle.std.proofs.lemmas.Bool.Decides.{nat_tests}
 use Rattle.om_code.specs.Plain.{IsPlace}
 use Rattle.om_program_text.specs.ProgramText.{Words}
 use Rattle.om_program_text.specs.Words.{place_word, sign_word}
-use Rattle.om_asm.specs.Lines.{◌>>=◌, word_by, no_more}
-use Rattle.om_asm.specs.Spelt.{number_of, place_of, leg_of}
+use Rattle.om_asm.specs.Lines.{word_by, no_more}
+use Rattle.om_ring.specs.OptionSteps.{◌>>=◌}
+use Rattle.om_asm.specs.Spelt.{place_of, leg_of}
+use Rattle.om_ring.specs.Spelt.{decimal_below}
 use Rattle.om_asm.specs.Instrs.{sign_of}
-use Rattle.om_asm.proofs.SpeltLemmas.{spelt_found, spelt_some, one_decimal, one_place, same_bytes}
+use Rattle.om_asm.proofs.SpeltLemmas.{one_place, same_bytes}
+use Rattle.om_ring.proofs.SpeltLemmas.{spelt_found, spelt_some, decimal_read}
 
 -- a reader of a word finds what the word spells, and nothing that is spelled is refused
 pub record IsWord {A : Type 0} (read : List ℕ → Option A) (text : A → List ℕ) (fits : A → Type 0) : Type 0 where
@@ -44,10 +47,10 @@ place_law = record {
   again = λ x h. spelt_some place_word (2 ^ 32 - 1) (place_word x) x h refl one_place;
 }
 
-pub number_law : (limit : ℕ) → limit ≤ 2 ^ 64 → IsWord (number_of limit) decimal (λ n. n < limit)
+pub number_law : (limit : ℕ) → limit ≤ 2 ^ 64 → IsWord (decimal_below limit) decimal (λ n. n < limit)
 number_law limit h = record {
   found = λ w x e. let f = spelt_found decimal limit w x e in (f.1, f.0);
-  again = λ x l. spelt_some decimal limit (decimal x) x l refl (one_decimal limit h);
+  again = λ x l. decimal_read x limit (decimal x) l h refl;
 }
 
 abbrev pub IsLegNumber : ℕ → Type 0
@@ -59,14 +62,14 @@ not_zero n x false e h = (cc, grind (arith, nat_tests))
 
 leg_found : (w : List ℕ) (x : ℕ) → leg_of w ≡ Some x → (decimal x ≡ w) × IsLegNumber x
 leg_found w x e =
-    let b = bind_some (number_of 256 w) (λ n. cond (eqb n 0) None (Some n)) x e in
+    let b = bind_some (decimal_below 256 w) (λ n. cond (eqb n 0) None (Some n)) x e in
     let f = spelt_found decimal 256 w b.0 b.1 in
     let z = not_zero b.0 x (eqb b.0 0) refl b.2 in
     (ap decimal (sym z.0) ∙ f.1, (omega (arith, z.0, z.1), omega (arith, z.0, f.0)))
 
 leg_again : (x : ℕ) → IsLegNumber x → leg_of (decimal x) ≡ Some x
 leg_again x h =
-    let n = spelt_some decimal 256 (decimal x) x h.1 refl (one_decimal 256 (omega arith)) in
+    let n = decimal_read x 256 (decimal x) h.1 (omega arith) refl in
     let t : eqb x 0 ≡ false = grind (arith, nat_tests) in
     ap (λ (o : Option ℕ). o >>= λ n. cond (eqb n 0) None (Some n)) n ∙ ap (λ b. cond b None (Some x)) t
 

@@ -2,7 +2,8 @@
 use Rattle.std.proofs.Common.{◌≡◌, ℕ, List, [], ◌∷◌, Option, Some, ap}
 use Rattle.om_colour.specs.declared.Flow.{Flow}
 use Rattle.om_program_text.specs.ProgramText.{Words}
-use Rattle.om_asm.specs.Lines.{◌>>=◌, word_by, no_more}
+use Rattle.om_asm.specs.Lines.{word_by, no_more}
+use Rattle.om_ring.specs.OptionSteps.{◌>>=◌}
 use Rattle.om_asm.specs.Flows.{flow_of, flow_line}
 
 abbrev and_rest : {A : Type 0} → Words → A → Option (A × Words)

@@ -2,8 +2,10 @@
 use Rattle.std.specs.Prelude.{ℕ, ◌^◌, if◌then◌else◌, List, codes, Option, Some, None}
 use Rattle.std.specs.Str.{bytes_eq}
 use Rattle.om_program_text.specs.ProgramText.{Words}
-use Rattle.om_asm.specs.Lines.{◌>>=◌, word_by, no_more}
-use Rattle.om_asm.specs.Spelt.{number_of, literal}
+use Rattle.om_asm.specs.Lines.{word_by, no_more}
+use Rattle.om_ring.specs.OptionSteps.{◌>>=◌}
+use Rattle.om_asm.specs.Spelt.{literal}
+use Rattle.om_ring.specs.Spelt.{decimal_below}
 use Rattle.om_asm.specs.Reading.{name_of}
 
 -- version 1 or 2
@@ -25,7 +27,7 @@ abbrev pub model_name_of : Words → Option (List ℕ)
 model_name_of words = keyed (codes "model") name_of words
 
 abbrev pub slots_of : Words → Option ℕ
-slots_of words = keyed (codes "slots") (number_of (2 ^ 32)) words
+slots_of words = keyed (codes "slots") (decimal_below (2 ^ 32)) words
 
 unfoldable pub end_of : Words → Option (Unit {0})
 end_of words = do

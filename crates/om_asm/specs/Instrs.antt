@@ -6,8 +6,10 @@ use Rattle.om_code.specs.declared.code.Instr.{Instr}
 use Rattle.om_code.specs.declared.code.Instr.TheVariants.{Load, Fuse, Prop, Key}
 use Rattle.om_asm.specs.declared.instr_line.Joint.{Joint}
 use Rattle.om_program_text.specs.ProgramText.{Words}
-use Rattle.om_asm.specs.Lines.{◌>>=◌, word_by, no_more}
-use Rattle.om_asm.specs.Spelt.{place_of, leg_of, number_of}
+use Rattle.om_asm.specs.Lines.{word_by, no_more}
+use Rattle.om_ring.specs.OptionSteps.{◌>>=◌}
+use Rattle.om_asm.specs.Spelt.{place_of, leg_of}
+use Rattle.om_ring.specs.Spelt.{decimal_below}
 use Rattle.om_asm.specs.BranchLists.{two_nodes, three_nodes, four_nodes}
 
 abbrev pub sign_of : List ℕ → Option Bool
@@ -41,7 +43,7 @@ joint_of words = do
   target ← word_by place_of words
   sign ← word_by sign_of target.1
   vertex ← word_by place_of sign.1
-  choice ← word_by (number_of 256) vertex.1
+  choice ← word_by (decimal_below 256) vertex.1
   branches ← branches_of choice.1
   Some (record { to = target.0; minus = sign.0; vertex = vertex.0; choice = choice.0; branches = branches })
 

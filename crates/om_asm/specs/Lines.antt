@@ -1,6 +1,7 @@
 -- A text as its lines, and a line as its words.
 use Rattle.std.specs.Prelude.{◌≡◌, ℕ, ◌+◌, ◌^◌, ◌<◌, ◌==◌, List, [], ◌∷◌, length, Option, Some, None}
 use Rattle.std.specs.List.{slice_split}
+use Rattle.om_ring.specs.OptionSteps.{◌>>=◌}
 use Rattle.om_program_text.specs.ProgramText.{Words}
 
 -- the pieces between single spaces
@@ -59,12 +60,6 @@ Advances before now = (w : List ℕ) (ws : Words) (lines : List Words) → befor
 abbrev pub Scans : {A : Type 0} → Option (A × Words) → Option A → Words → Type 0
 Scans found None rest = found ≡ None
 Scans found (Some x) rest = found ≡ Some (x, rest)
-
-infixl 10 ◌>>=◌
--- one thing after another, where there is a first
-abbrev pub ◌>>=◌ : {A B : Type 0} → Option A → (A → Option B) → Option B
-None >>= f = None
-(Some x) >>= f = f x
 
 -- the first word, and the others
 abbrev pub next_word : Words → Option (List ℕ × Words)

@@ -14,7 +14,8 @@ use Rattle.om_asm.specs.Heads.{version_of, model_name_of, slots_of, end_of}
 use Rattle.om_asm.specs.Reading.{particle_row, leg_row, den_row}
 use Rattle.om_asm.specs.Vertices.{vertex_row}
 use Rattle.om_asm.specs.Flows.{flow_line}
-use Rattle.om_asm.specs.Rows.{BadLine, bad, place, ◌>>=◌, rows_from, formed, instrs_at}
+use Rattle.om_asm.specs.Rows.{BadLine, bad, place, rows_from, formed, instrs_at}
+use Rattle.om_ring.specs.ResultSteps.{◌>>=◌}
 
 abbrev pub line_or_bad : {A : Type 0} → Option A → At → Result (A × At) BadLine
 line_or_bad (Some x) a = Ok (x, place (a.number + 1) (drop 1 a.lines))

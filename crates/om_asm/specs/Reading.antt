@@ -11,7 +11,7 @@ use Rattle.om_colour.specs.declared.Colour.{Colour}
 use Rattle.om_colour.specs.declared.Colour.TheVariants.{One, Three, AntiThree, Eight}
 use Rattle.om_model.specs.Name.{is_name}
 use Rattle.om_model.specs.Words.{spin_of_word}
-use Rattle.om_model.specs.ProcessText.{field_named}
+use Rattle.om_model.specs.FieldNames.{field_named}
 use Rattle.om_model.specs.declared.model.Particle.{Particle}
 use Rattle.om_code.specs.declared.code.Den.{Den}
 use Rattle.om_asm.specs.declared.fault.AsmKind.{AsmKind}
@@ -19,8 +19,9 @@ use Rattle.om_asm.specs.declared.fault.AsmKind.TheVariants.{Grammar, Name}
 use Rattle.om_program_text.specs.ProgramText.{Words}
 use Rattle.om_program_text.specs.Words.{set_word}
 use Rattle.om_asm.specs.Lines.{word_by, no_more, next_word}
-use Rattle.om_asm.specs.Spelt.{number_of}
-use Rattle.om_asm.specs.Rows.{◌>>=◌, formed}
+use Rattle.om_ring.specs.Spelt.{decimal_below}
+use Rattle.om_asm.specs.Rows.{formed}
+use Rattle.om_ring.specs.ResultSteps.{◌>>=◌}
 use Rattle.om_asm.specs.Lists.{list_from}
 
 -- a name of a model, a particle or an antiparticle
@@ -50,7 +51,7 @@ product_of word = list_from factor_of 8 0 (slice_split (λ b. b == 42) word)
 -- the union of the sets of the legs that pieces name, each 1 to 12
 unfoldable pub legs_from : ℕ → Words → Option ℕ
 legs_from set [] = Some set
-legs_from set (w ∷ ws) = elim (number_of 13 w) [ None ↦ None | Some leg ↦ if leg == 0 then None else legs_from (union set (set_of_one leg)) ws ]
+legs_from set (w ∷ ws) = elim (decimal_below 13 w) [ None ↦ None | Some leg ↦ if leg == 0 then None else legs_from (union set (set_of_one leg)) ws ]
 
 -- the set, where the word is its spelling
 abbrev pub spelled_set : List ℕ → Option ℕ → Option ℕ

@@ -8,6 +8,7 @@ use Rattle.om_asm.specs.declared.fault.AsmFault.{AsmFault}
 use Rattle.om_asm.specs.declared.fault.AsmFault.TheVariants as faults
 use Rattle.om_asm.specs.declared.fault.LineFault.{LineFault}
 use Rattle.om_asm.specs.declared.fault.LineFault.TheVariants as lines
+use Rattle.om_ring.specs.ResultSteps.{◌>>=◌}
 use Rattle.om_program_text.specs.ProgramText.{Words}
 use Rattle.om_asm.specs.Lines.{At}
 use Rattle.om_asm.specs.Instrs.{fuse_of, key_of, prop_of, load_of}
@@ -42,12 +43,6 @@ abbrev pub GivesNothing : {A : Type 0} → Result A BadLine → Result A AsmFaul
 GivesNothing said (Ok x) = said ≡ Ok x
 GivesNothing said (Err faults.Memory) = Unit {0}
 GivesNothing said (Err (faults.Bad line kind)) = said ≡ Err (bad line kind)
-
-infixl 10 ◌>>=◌
--- what follows on an Ok
-abbrev pub ◌>>=◌ : {A B F : Type 0} → Result A F → (A → Result B F) → Result B F
-(Ok x) >>= next = next x
-(Err fault) >>= next = Err fault
 
 abbrev pub at_line : {A : Type 0} → ℕ → Result A AsmKind → Result A BadLine
 at_line number (Ok x) = Ok x

@@ -1,17 +1,9 @@
 -- What a word says, where only one spelling is right.
 use Rattle.std.specs.Prelude.{ℕ, ◌-◌, ◌^◌, ◌==◌, if◌then◌else◌, List, decimal, Option, Some, None}
 use Rattle.std.specs.Str.{bytes_eq}
-use Rattle.om_ring.specs.FindBelow.{find_below}
-use Rattle.om_asm.specs.Lines.{◌>>=◌}
+use Rattle.om_ring.specs.Spelt.{spelt, decimal_below}
+use Rattle.om_ring.specs.OptionSteps.{◌>>=◌}
 use Rattle.om_program_text.specs.Words.{place_word}
-
--- the number below a limit whose spelling the word is
-unfoldable pub spelt : (ℕ → List ℕ) → ℕ → List ℕ → Option ℕ
-spelt text limit word = find_below (λ n. bytes_eq (text n) word) limit
-
--- a decimal below a limit
-abbrev pub number_of : ℕ → List ℕ → Option ℕ
-number_of limit word = spelt decimal limit word
 
 -- a decimal below 2^32 that counts from 1, as the number that counts from 0
 abbrev pub place_of : List ℕ → Option ℕ
@@ -20,7 +12,7 @@ place_of word = spelt place_word (2 ^ 32 - 1) word
 -- the number of a leg: a decimal from 1 on, below 256
 abbrev pub leg_of : List ℕ → Option ℕ
 leg_of word = do
-  n ← number_of 256 word
+  n ← decimal_below 256 word
   if n == 0 then None else Some n
 
 -- a word that a program has to have at its place

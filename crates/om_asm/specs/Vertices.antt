@@ -7,8 +7,9 @@ use Rattle.om_asm.specs.declared.fault.AsmKind.{AsmKind}
 use Rattle.om_asm.specs.declared.fault.AsmKind.TheVariants.{Name}
 use Rattle.om_program_text.specs.ProgramText.{Words}
 use Rattle.om_asm.specs.Lines.{word_by}
-use Rattle.om_asm.specs.Spelt.{number_of}
-use Rattle.om_asm.specs.Rows.{◌>>=◌, formed}
+use Rattle.om_ring.specs.Spelt.{decimal_below}
+use Rattle.om_asm.specs.Rows.{formed}
+use Rattle.om_ring.specs.ResultSteps.{◌>>=◌}
 use Rattle.om_asm.specs.Slots.{slot_of, fourth_slot, factors_of}
 
 -- the fields of three slots and perhaps a fourth, where all are known
@@ -20,7 +21,7 @@ known_fields _ _ _ _ = Err Name
 unfoldable pub vertex_row : List Particle → Words → Result Vertex AsmKind
 vertex_row particles words = do
   structure ← formed (word_by structure_of_word words)
-  order ← formed (word_by (number_of 256) structure.1)
+  order ← formed (word_by (decimal_below 256) structure.1)
   a ← formed (word_by (slot_of particles) order.1)
   b ← formed (word_by (slot_of particles) a.1)
   c ← formed (word_by (slot_of particles) b.1)

@@ -1,6 +1,6 @@
 //! The fields of a model by their names.
 ghost use Rattle.std.specs.Prelude.{◌≡◌, ℕ, ◌<◌, ◌≤◌, ◌*◌, ◌+◌, List as ListOf, length, IfOk, OnOk};
-ghost use Rattle.om_model.specs.ProcessText.{field_named};
+ghost use Rattle.om_model.specs.FieldNames.{field_named};
 ghost use Rattle.om_asm.specs.Fields.{HasFirstFields, named_in, or_else, where_named};
 
 use om_model::Particle;

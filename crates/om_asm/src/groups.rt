@@ -8,10 +8,10 @@ ghost use Rattle.om_asm.specs.Flows.{flow_line};
 ghost use Rattle.om_asm.specs.Program.{particles_at, rows_at};
 
 use crate::fault::{AsmFault, AsmKind, LineFault};
-use crate::fields::Fields;
-use crate::lines::{Lines, Words};
-use crate::flow_line::read_flow_line;
 use crate::field_lines::{read_den_line, read_leg_line};
+use crate::fields::Fields;
+use crate::flow_line::read_flow_line;
+use crate::lines::{Lines, Words};
 use crate::particle_line::read_particle_line;
 use crate::rows::{LineKind, read_list};
 use crate::vertex_line::read_vertex_line;

@@ -1,16 +1,17 @@
 //! The lines that stand once: the version, the name of the model, the slots and the end.
 ghost use Rattle.std.specs.Prelude.{◌≡◌, ◌^◌, codes};
 ghost use Rattle.om_asm.specs.Lines.{Scans, word_by};
-ghost use Rattle.om_asm.specs.Spelt.{literal, number_of};
+ghost use Rattle.om_asm.specs.Spelt.{literal};
+ghost use Rattle.om_ring.specs.Spelt.{decimal_below};
 ghost use Rattle.om_asm.specs.Heads.{version_word, version_of, model_name_of, slots_of, end_of};
 ghost use Rattle.om_asm.specs.Program.{one_line, slots_at, end_at};
 ghost use Rattle.om_asm.specs.Rows.{GivesAt, GivesNothing, IsAtLine};
 
 use crate::fault::{AsmFault, AsmKind, LineFault};
 use crate::lines::{Lines, Words};
-use crate::numbers::read_number;
 use crate::words::next_name;
 use om_model::Name;
+use om_ring::read_decimal_below;
 
 fn take_word(words: &mut Words, word: &[u8]) -> Option<()>
     ensures { Scans (word_by (literal word.now) words.old) result words.new }
@@ -39,14 +40,14 @@ fn next_version(words: &mut Words) -> Option<u8>
 }
 
 fn read_slots_word(word: &[u8]) -> Option<u32>
-    ensures { result ≡ number_of (2 ^ 32) word.now }
+    ensures { result ≡ decimal_below (2 ^ 32) word.now }
 {
-    let n = read_number(word, 1 << 32)?;
+    let n = read_decimal_below(word, 1 << 32)?;
     Some(n as u32)
 }
 
 fn next_slots(words: &mut Words) -> Option<u32>
-    ensures { Scans (word_by (number_of (2 ^ 32)) words.old) result words.new }
+    ensures { Scans (word_by (decimal_below (2 ^ 32)) words.old) result words.new }
 {
     read_slots_word(words.next()?)
 }

@@ -29,11 +29,7 @@ struct Process {
 }
 
 #[tactic(auto, unfolding(crate::specs::Program::process_at))]
-fn read_process(
-    alloc: Global,
-    fields: &Fields,
-    lines: &mut Lines,
-) -> Result<Process, AsmFault>
+fn read_process(alloc: Global, fields: &Fields, lines: &mut Lines) -> Result<Process, AsmFault>
     ensures { GivesAt (process_at fields.now lines.old) result lines.new }
 {
     let legs = read_legs(alloc, fields, lines)?;

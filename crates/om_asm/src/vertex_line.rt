@@ -2,7 +2,8 @@
 ghost use Rattle.std.specs.Prelude.{◌≡◌, ◌≤◌, ◌∷◌, ◌++◌, length, codes, Ok};
 ghost use Rattle.om_model.specs.Words.{structure_of_word};
 ghost use Rattle.om_asm.specs.Lines.{Scans, word_by};
-ghost use Rattle.om_asm.specs.Spelt.{number_of, literal};
+ghost use Rattle.om_asm.specs.Spelt.{literal};
+ghost use Rattle.om_ring.specs.Spelt.{decimal_below};
 ghost use Rattle.om_asm.specs.Slots.{slot_of, fourth_slot, factors_of};
 ghost use Rattle.om_asm.specs.Vertices.{known_fields, vertex_row};
 ghost use Rattle.om_asm.specs.Lists.{list_from};
@@ -31,7 +32,7 @@ fn next_structure(words: &mut Words) -> Option<Structure>
 }
 
 fn next_order(words: &mut Words) -> Option<u8>
-    ensures { Scans (word_by (number_of 256) words.old) result words.new }
+    ensures { Scans (word_by (decimal_below 256) words.old) result words.new }
 {
     read_small(words.next()?)
 }

@@ -9,13 +9,12 @@ ghost use Rattle.om_asm.specs.Rows.{Gives};
 use crate::fault::{AsmKind, LineFault};
 use crate::fields::Fields;
 use crate::lines::Words;
-use crate::numbers::read_number;
-use om_program_text::push_set;
 use om_colour::Colour;
 use om_legs::LegSet;
 use om_lorentz::Spin;
 use om_model::{Name, spin_of};
-use om_ring::{Line, Numeral, read_numeral, show_numeral};
+use om_program_text::push_set;
+use om_ring::{Line, Numeral, read_decimal_below, read_numeral, show_numeral};
 
 pub(crate) fn read_name(word: &[u8]) -> Option<Name>
     ensures { result ≡ name_of word.now }
@@ -71,7 +70,7 @@ fn read_legs(mut pieces: Words) -> Option<LegSet>
 {
     let mut set = LegSet::empty();
     while let Some(piece) = pieces.next() {
-        let leg = read_number(piece, 13)?;
+        let leg = read_decimal_below(piece, 13)?;
         if leg == 0 {
             return None;
         }
@@ -85,9 +84,9 @@ pub(crate) fn read_set(word: &[u8]) -> Option<LegSet>
     ensures { result ≡ set_of word.now }
 {
     let set = read_legs(Words::pieces(word, b'+'))?;
-    let mut line = Line::new();
-    push_set(set, &mut line);
-    if line.bytes() == word {
+    let mut spelling = Line::new();
+    push_set(set, &mut spelling);
+    if spelling.bytes() == word {
         Some(set)
     } else {
         None

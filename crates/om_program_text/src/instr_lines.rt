@@ -1,7 +1,8 @@
 //! The lines of instructions.
 ghost use Rattle.std.specs.Prelude.{◌≡◌, ◌+◌, ◌*◌, ◌≤◌, ◌++◌, length};
 ghost use Rattle.om_program_text.specs.ProgramText.{line_text, instr_words, load_words, branch_words, joint_words, spaced};
-ghost use Rattle.om_code.specs.Plain.{IsPlainInstr, IsLoadSlot, ArePlaces, IsPlace};
+ghost use Rattle.om_code.specs.Plain.{IsPlainInstr, IsLoadSlot, IsPlace};
+ghost use Rattle.std.specs.List.{AllByRecursion};
 
 use crate::buffer::make_room;
 use crate::rows::RowKind;
@@ -87,7 +88,7 @@ fn push_joint(to: u32, minus: bool, vertex: u32, choice: u8, branches: &Branches
     requires free { length line.old + 150 ≤ 512 }
     requires to { IsPlace to }
     requires vertex { IsPlace vertex }
-    requires branches { ArePlaces branches.now.count branches.now.nodes }
+    requires branches { AllByRecursion IsPlace branches.now.nodes }
     ensures { line.new ≡ line.old ++ line_text (joint_words to minus vertex choice branches.now) }
 {
     push_place(to, line);
@@ -104,7 +105,7 @@ fn push_joint(to: u32, minus: bool, vertex: u32, choice: u8, branches: &Branches
 // Each branch behind a space.
 fn push_branches(branches: &Branches, line: &mut Line)
     requires free { length line.old + 84 ≤ 512 }
-    requires branches { ArePlaces branches.now.count branches.now.nodes }
+    requires branches { AllByRecursion IsPlace branches.now.nodes }
     ensures words { line.new ≡ line.old ++ spaced (branch_words branches.now) }
     ensures short { length line.new ≤ length line.old + 84 }
 {

@@ -8,9 +8,9 @@ ghost use Rattle.om_program_text.specs.Words.{product_word, spin_word as spin_wo
 ghost use Rattle.om_program_text.specs.Writing.{Writes, outlet, all_of};
 ghost use Rattle.om_code.specs.Plain.{field_name as field_name_of, IsPlainParticle, IsPlainVertex, IsNamed, IsProduct};
 
+use crate::buffer::make_room;
 use crate::rows::{RowKind, write_each, write_rows};
 use crate::words::{colour_word, field_name, spin_word, structure_word};
-use crate::buffer::make_room;
 use om_colour::Colour;
 use om_io::{Failed, Sink};
 use om_lorentz::Structure;

@@ -7,11 +7,11 @@ ghost use Rattle.om_program_text.specs.ProgramText.{lines_text, program_text, sl
 ghost use Rattle.om_program_text.specs.Parts.{head_text, model_parts, process_parts, instr_parts, program_parts};
 ghost use Rattle.om_code.specs.Plain.{IsPlain};
 
-use crate::process_lines::{DenLines, FlowLines, LegLines};
+use crate::buffer::{flush, make_room};
 use crate::instr_lines::InstrLines;
 use crate::model_lines::{ParticleLines, VertexLines};
+use crate::process_lines::{DenLines, FlowLines, LegLines};
 use crate::rows::write_rows;
-use crate::buffer::{flush, make_room};
 use om_code::Code;
 use om_io::{Failed, Sink};
 use om_ring::Line;

@@ -1,5 +1,5 @@
 use Rattle.std.proofs.Common.{◌≡◌, ℕ, List, drop}
-use Rattle.om_model.specs.ProcessText.{field_from, field_named}
+use Rattle.om_model.specs.FieldNames.{field_from, field_named}
 use Rattle.om_asm.specs.Fields.{named_in, or_else}
 use Rattle.om_asm.proofs.fields.first_fields.Given as goal
 
