@@ -7,22 +7,23 @@ use Rattle.std.proofs.lemmas.Option.{slice_get_within}
 use Rattle.std.proofs.lemmas.Slice.Eq.{bytes_eq-Decides}
 use Rattle.om_model.specs.declared.model.Particle.{Particle}
 use Rattle.om_model.specs.declared.process.Leg.{Leg}
-use Rattle.om_model.specs.FieldNames.{field_from, field_named}
+use Rattle.om_model.specs.FieldNames.{field_from, field_named, name_in}
 use Rattle.om_model.specs.Model.{particle_of, is_own_anti, is_field, anti_field}
 use Rattle.om_model.specs.ProcessText.{Named, leg_of, legs_from, with_first}
 use Rattle.om_model.proofs.ModelFields.{own, anti_own, anti_row, same_particle}
 use Rattle.om_model.proofs.NamedLegs.{from-unknown, from-known}
 
 -- the row of a field with a name, and that it has two fields where the name is the antiname
-pub record IsIn (row : ℕ) (ps : List Particle) (f : ℕ) : Type 0 where
+pub record IsIn (name : List ℕ) (row : ℕ) (ps : List Particle) (f : ℕ) : Type 0 where
   pub place : ℕ
   pub particle : Particle
   pub is : slice_get ps place ≡ Some particle
   pub row_is : f / 2 ≡ row + place
   pub two : (f % 2 == 0) || not (bytes_eq particle.name particle.anti) ≡ true
+  pub name_is : name_in (Some particle) (f % 2 == 0) ≡ name
 
 module _ (name : List ℕ) where
-  named_in : (row : ℕ) (ps : List Particle) (f : ℕ) → field_from row ps name ≡ Some f → IsIn row ps f
+  pub named_in : (row : ℕ) (ps : List Particle) (f : ℕ) → field_from row ps name ≡ Some f → IsIn name row ps f
   unfolding field_from
   named_in row [] f e = absurd (let never : ⊥ = cc in never)
   named_in row (p ∷ ps) f e = by (bytes_eq name p.name) (bytes_eq name p.anti) refl refl e (λ q. named_in (row + 1) ps f q)
@@ -42,26 +43,34 @@ module _ (name : List ℕ) where
       is_even : (f : ℕ) (b : Bool) → f % 2 ≡ 0 → (f % 2 == 0) || b ≡ true
       is_even f b q = ap (λ t. t || b) (let t : (f % 2 == 0) ≡ true = grind (arith, nat_tests, q) in t)
 
+      named_even : (f : ℕ) → f % 2 ≡ 0 → bytes_eq name p.name ≡ true → name_in (Some p) (f % 2 == 0) ≡ name
+      named_even f q g = ap (name_in (Some p)) (let t : (f % 2 == 0) ≡ true = grind (arith, nat_tests, q) in t) ∙ sym ((bytes_eq-Decides name p.name).0 g)
+
+      named_odd : (f : ℕ) → f ≡ 2 * row + 1 → bytes_eq name p.anti ≡ true → name_in (Some p) (f % 2 == 0) ≡ name
+      named_odd f q h =
+          let r : f % 2 ≡ 1 = omega (arith, q) in
+          ap (name_in (Some p)) (let t : (f % 2 == 0) ≡ false = grind (arith, nat_tests, r) in t) ∙ sym ((bytes_eq-Decides name p.anti).0 h)
+
       either : (a b : Bool) → b ≡ true → a || b ≡ true
       either true b q = refl
       either false b q = q
 
-      later : IsIn (row + 1) ps f → IsIn row (p ∷ ps) f
-      later i = let r = i.row_is in record { place = suc i.place; particle = i.particle; is = i.is; row_is = omega (arith, r); two = i.two }
+      later : IsIn name (row + 1) ps f → IsIn name row (p ∷ ps) f
+      later i = let r = i.row_is in record { place = suc i.place; particle = i.particle; is = i.is; row_is = omega (arith, r); two = i.two; name_is = i.name_is }
 
       by : (b d : Bool) → bytes_eq name p.name ≡ b → bytes_eq name p.anti ≡ d → cond b (Some (2 * row)) (cond d (Some (2 * row + 1)) (field_from (row + 1) ps name)) ≡ Some f
-          → (field_from (row + 1) ps name ≡ Some f → IsIn (row + 1) ps f) → IsIn row (p ∷ ps) f
+          → (field_from (row + 1) ps name ≡ Some f → IsIn name (row + 1) ps f) → IsIn name row (p ∷ ps) f
       by true d g h q more =
           let r : f ≡ 2 * row = cc in
           let x = even f r in
-          record { place = 0; particle = p; is = refl; row_is = x.0; two = is_even f (not (bytes_eq p.name p.anti)) x.1 }
+          record { place = 0; particle = p; is = refl; row_is = x.0; two = is_even f (not (bytes_eq p.name p.anti)) x.1; name_is = named_even f x.1 g }
       by false true g h q more =
           let r : f ≡ 2 * row + 1 = cc in
-          record { place = 0; particle = p; is = refl; row_is = odd f r; two = either (f % 2 == 0) (not (bytes_eq p.name p.anti)) (differ g h (bytes_eq p.name p.anti) refl) }
+          record { place = 0; particle = p; is = refl; row_is = odd f r; two = either (f % 2 == 0) (not (bytes_eq p.name p.anti)) (differ g h (bytes_eq p.name p.anti) refl); name_is = named_odd f r h }
       by false false g h q more = later (more q)
 
 module _ (ps : List Particle) where
-  field_there : (f : ℕ) → IsIn 0 ps f → is_field ps f ≡ true
+  pub field_there : {name : List ℕ} (f : ℕ) → IsIn name 0 ps f → is_field ps f ≡ true
   field_there f i =
       let r = i.row_is in
       let row : f / 2 ≡ i.place = omega (arith, r) in

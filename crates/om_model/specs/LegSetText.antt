@@ -1,19 +1,13 @@
 -- The text of a set of legs, as 1+4+7: decimals from 1 to 99 without leading zeros, strictly rising, joined by plus signs.
 use Rattle.std.specs.Prelude.{ℕ, ◌+◌, ◌-◌, ◌*◌, ◌==◌, List, [], ◌∷◌, Bool, ◌&&◌, nat_le, nat_lt, Option, Some, None, option_map, is_some, if◌then◌else◌}
 use Rattle.std.specs.List.{list_all, list_any, slice_split}
+use Rattle.om_ring.specs.Spelt.{decimal_below}
 use Rattle.om_legs.specs.Legs.{set_of, set_of_one, union}
-use Rattle.om_model.specs.Name.{is_digit}
 use Rattle.om_model.specs.declared.leg_set_text.LegsRead.{LegsRead}
 
--- a digit that isn't 0
-abbrev pub begins_number : ℕ → Bool
-begins_number b = nat_le 49 b && nat_le b 57
-
--- the number that one or two digits mean, of which the first isn't 0
+-- the number below 100 whose decimal the text is
 abbrev pub leg_number : List ℕ → Option ℕ
-leg_number (a ∷ []) = if begins_number a then Some (a - 48) else None
-leg_number (a ∷ b ∷ []) = if begins_number a && is_digit b then Some (10 * (a - 48) + (b - 48)) else None
-leg_number _ = None
+leg_number text = decimal_below 100 text
 
 -- the numbers of the pieces, each greater than the one before, the first greater than `last`
 unfoldable pub numbers_above : ℕ → List (List ℕ) → Option (List ℕ)

@@ -1,7 +1,8 @@
 -- Processes over a model.
 use Rattle.std.specs.Prelude.{◌≡◌, ℕ, ◌+◌, ◌≤◌, length, true, Some, slice_get}
 use Rattle.om_legs.specs.Legs.{IsLegSet, size, minus, all_legs}
-use Rattle.om_model.specs.declared.limits.TheConstants.{FEWEST_LEGS, MOST_LEGS}
+use Rattle.om_legs.specs.declared.leg_set.TheConstants.{MOST_LEGS}
+use Rattle.om_model.specs.declared.limits.TheConstants.{FEWEST_LEGS}
 use Rattle.om_model.specs.declared.model.Model.{Model}
 use Rattle.om_model.specs.declared.process.Leg.{Leg}
 use Rattle.om_model.specs.declared.process.Process.{Process}

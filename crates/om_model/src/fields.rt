@@ -1,7 +1,7 @@
 //! The fields of particles: their names, spins, colours and antifields.
 ghost use Rattle.std.specs.Prelude.{◌≡◌, ◌^◌, ◌≤◌, length};
-ghost use Rattle.om_colour.specs.Lines.{anti_colour as anti_colour_of};
-ghost use Rattle.om_model.specs.FieldNames.{field_named as field_named_of};
+ghost use Rattle.om_model.specs.declared.limits.TheConstants.{MOST_NAME_BYTES};
+ghost use Rattle.om_model.specs.FieldNames.{field_name as field_name_of, field_named as field_named_of};
 ghost use Rattle.om_model.specs.Model.{anti_field as anti_field_of, colour_of_field as colour_of_field_of, is_field as is_field_of, spin_of_field as spin_of_field_of};
 
 use crate::Particle;
@@ -63,18 +63,19 @@ pub fn colour_of_field(particles: &[Particle], field: u16) -> Colour
 {
     match particles.get(usize::from(field / 2)) {
         Some(particle) if field % 2 == 0 => particle.colour,
-        Some(particle) => anti_colour(particle.colour),
+        Some(particle) => particle.colour.anti(),
         None => Colour::One,
     }
 }
 
-// The colour with 3 and -3 exchanged.
-fn anti_colour(colour: Colour) -> Colour
-    ensures { result ≡ anti_colour_of colour }
+/// The name of a field: the name or the antiname of its particle. Empty exactly where no particle has the field's row.
+pub fn field_name(particles: &[Particle], field: u16) -> &[u8]
+    ensures name { result.now ≡ field_name_of particles.now field }
+    ensures short { length result.now ≤ MOST_NAME_BYTES }
 {
-    match colour {
-        Colour::Three => Colour::AntiThree,
-        Colour::AntiThree => Colour::Three,
-        _ => colour,
+    match particles.get(usize::from(field / 2)) {
+        None => &[],
+        Some(particle) if field % 2 == 0 => particle.name.bytes(),
+        Some(particle) => particle.anti.bytes(),
     }
 }

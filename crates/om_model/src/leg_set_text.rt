@@ -2,10 +2,10 @@
 ghost use Rattle.std.specs.Prelude.{◌≡◌, ◌<◌, ◌==◌, [], ◌∷◌, IfSome, MatchOption, length, option_map};
 ghost use Rattle.std.specs.List.{position, slice_split};
 ghost use Rattle.om_legs.specs.Legs.{set_of_one};
-ghost use Rattle.om_model.specs.LegSetText.{begins_number as begins_number_of, is_set as is_set_of, leg_number as leg_number_of, legs_read, one_more, set_numbers};
-ghost use Rattle.om_model.specs.Name.{is_digit as is_digit_of};
+ghost use Rattle.om_model.specs.LegSetText.{is_set as is_set_of, leg_number as leg_number_of, legs_read, one_more, set_numbers};
 
-use om_legs::LegSet;
+use om_legs::{LegSet, MOST_LEGS};
+use om_ring::read_decimal_below;
 
 // What the text of a set of legs names: its legs among 1 to 12, and its greatest number.
 #[derive(Clone, Copy)]
@@ -57,7 +57,6 @@ fn plus_in(text: &[u8]) -> Option<usize>
 
 // One number more, if it is greater than those before.
 fn with_number(read: LegsRead, number: Option<u8>) -> Option<LegsRead>
-    requires { IfSome number (λ k. 0 < k) }
     ensures { result ≡ one_more read number }
 {
     let number = number?;
@@ -75,33 +74,17 @@ fn leg_of_number(number: u8) -> LegSet
     requires { 0 < number }
     ensures { result ≡ set_of_one number }
 {
-    if number <= 12 {
+    if number <= MOST_LEGS {
         LegSet::one(number)
     } else {
         LegSet::empty()
     }
 }
 
-// The number that one or two digits mean, of which the first isn't 0.
-fn leg_number(digits: &[u8]) -> Option<u8>
-    ensures number { result ≡ leg_number_of digits.now }
-    ensures positive { IfSome result (λ k. 0 < k) }
+// The number below 100 whose decimal the text is.
+fn leg_number(text: &[u8]) -> Option<u8>
+    ensures { result ≡ leg_number_of text.now }
 {
-    match digits {
-        [a] if begins_number(*a) => Some(a - b'0'),
-        [a, b] if begins_number(*a) && is_digit(*b) => Some(10 * (a - b'0') + (b - b'0')),
-        _ => None,
-    }
-}
-
-fn begins_number(b: u8) -> bool
-    ensures { result ≡ begins_number_of b }
-{
-    matches!(b, b'1'..=b'9')
-}
-
-fn is_digit(b: u8) -> bool
-    ensures { result ≡ is_digit_of b }
-{
-    b.is_ascii_digit()
+    let number = read_decimal_below(text, 100)?;
+    Some(number as u8)
 }

@@ -17,6 +17,3 @@ pub const HIGHEST_ORDER: u8 = 12;
 
 /// The fewest legs of a process.
 pub const FEWEST_LEGS: usize = 3;
-
-/// The most legs of a process.
-pub const MOST_LEGS: usize = 12;

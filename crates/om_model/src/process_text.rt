@@ -8,10 +8,11 @@ mod names;
 mod syntax;
 mod tokens;
 
-use crate::limits::{FEWEST_LEGS, MOST_LEGS};
+use crate::limits::FEWEST_LEGS;
 use crate::{Model, Process, ProcessFault};
 use edges::named_edges;
 use names::named_legs;
+use om_legs::MOST_LEGS;
 use std::alloc::Global;
 use syntax::syntax_fault;
 
@@ -30,7 +31,7 @@ pub fn read_process(alloc: Global, model: &Model, text: &[u8]) -> Result<Process
         return Err(ProcessFault::Syntax(place));
     }
     let legs = named_legs(alloc, model.particles.as_slice(), text)?;
-    if legs.len() < FEWEST_LEGS || legs.len() > MOST_LEGS {
+    if legs.len() < FEWEST_LEGS || legs.len() > usize::from(MOST_LEGS) {
         return Err(ProcessFault::Legs(legs.len() as u32));
     }
     let edges = named_edges(alloc, legs.len() as u8, text)?;

@@ -4,6 +4,8 @@ use Rattle.std.specs.Str.{is_utf8}
 use Rattle.toml.specs.Data.{Data, Members}
 use Rattle.toml.specs.Parse.{parse_document}
 use Rattle.om_ring.specs.Ops.{Ops}
+use Rattle.om_model.specs.declared.limits.TheConstants.{MOST_PARTICLES, MOST_VERTICES}
+use Rattle.om_modelfile.specs.declared.limits.TheConstants.{MOST_PARAMETERS}
 use Rattle.om_model.specs.Rules.{Checks, IsAccepted}
 use Rattle.om_model.specs.declared.model.Model.{Model}
 use Rattle.om_model.specs.declared.rules.Table.TheVariants.{Top, Parameter, Particle, Vertex}
@@ -41,7 +43,7 @@ top_of ms = do
   vertices ← values_at (codes "vertex") ms
   parameters ← values_or [] (codes "parameter") ms
   name ← name_in text
-  _ ← unless (nat_le (length parameters) 256 && nat_le (length particles) 64 && nat_le (length vertices) 512) TooMuch
+  _ ← unless (nat_le (length parameters) MOST_PARAMETERS && nat_le (length particles) MOST_PARTICLES && nat_le (length vertices) MOST_VERTICES) TooMuch
   Ok (record { name = name; parameters = parameters; particles = particles; vertices = vertices })
 
 -- the model that a document has the form of

@@ -4,6 +4,7 @@ use Rattle.std.specs.List.{find, slice_split}
 use Rattle.std.specs.Str.{bytes_eq}
 use Rattle.om_ring.specs.declared.numeral.Numeral.{Numeral}
 use Rattle.om_model.specs.Name.{is_letter}
+use Rattle.om_model.specs.declared.limits.TheConstants.{MOST_NUMERALS}
 use Rattle.om_modelfile.specs.declared.fault.RowFault.{RowFault}
 use Rattle.om_modelfile.specs.declared.fault.RowFault.TheVariants.{UnknownName, TooMuch}
 use Rattle.om_modelfile.specs.declared.parameter.Parameter.{Parameter}
@@ -25,5 +26,5 @@ terms_in text = slice_split (λ b. b == 42) text
 -- a product of at most 8 terms
 unfoldable pub product_of : List Parameter → List ℕ → Result (List Numeral) RowFault
 product_of parameters text = do
-  _ ← unless (nat_le (length (terms_in text)) 8) TooMuch
+  _ ← unless (nat_le (length (terms_in text)) MOST_NUMERALS) TooMuch
   each_from (λ _ term. term_of parameters term) 0 (terms_in text)

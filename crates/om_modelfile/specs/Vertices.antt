@@ -2,7 +2,9 @@
 use Rattle.std.specs.Prelude.{ℕ, ℤ, pos, nat_abs, int_le, nat_le, Bool, ◌&&◌, List, [], ◌∷◌, length, codes, ok_or, Result, Ok}
 use Rattle.toml.specs.Data.{Data, as_table, Members}
 use Rattle.om_ring.specs.declared.numeral.Numeral.{Numeral}
-use Rattle.om_model.specs.ProcessText.{field_named}
+use Rattle.om_model.specs.declared.limits.TheConstants.{HIGHEST_ORDER}
+use Rattle.om_modelfile.specs.declared.limits.TheConstants.{MOST_FIELDS, MOST_FACTORS}
+use Rattle.om_model.specs.FieldNames.{field_named}
 use Rattle.om_model.specs.declared.model.Particle.{Particle}
 use Rattle.om_model.specs.declared.model.Vertex.{Vertex}
 use Rattle.om_modelfile.specs.declared.fault.RowFault.{RowFault}
@@ -38,7 +40,7 @@ vertex_texts ms = do
 
 -- at most 4 fields, at most 3 factors, and an order of 0 to 12
 abbrev pub is_within_limits : VertexTexts → Bool
-is_within_limits texts = nat_le (length texts.fields) 4 && nat_le (length texts.factors) 3 && int_le (pos 0) texts.order && int_le texts.order (pos 12)
+is_within_limits texts = nat_le (length texts.fields) MOST_FIELDS && nat_le (length texts.factors) MOST_FACTORS && int_le (pos 0) texts.order && int_le texts.order (pos HIGHEST_ORDER)
 
 -- the field that a name means
 abbrev pub field_in : List Particle → List ℕ → Result ℕ RowFault

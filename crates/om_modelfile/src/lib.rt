@@ -8,6 +8,7 @@
 mod fault;
 mod keys;
 pub mod laws;
+pub mod limits;
 mod parameter;
 mod particle;
 mod product;

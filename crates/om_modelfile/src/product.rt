@@ -9,10 +9,9 @@ use crate::fault::RowFault;
 use crate::parameter::Parameter;
 use crate::texts::read_number;
 use om_model::Product;
+use om_model::limits::MOST_NUMERALS;
 use om_ring::{List, Numeral};
 use std::alloc::Global;
-
-const MOST_TERMS: usize = 8;
 
 // The product that a text says: numerals and names of parameters, with stars between them.
 #[tactic(auto, unfolding(crate::specs::Products::product_of))]
@@ -24,7 +23,7 @@ pub(crate) fn read_product(
     ensures { Gives (λ product. product) result (product_of parameters.now text.now) }
 {
     let terms = terms_in(alloc, text)?;
-    if terms.len() > MOST_TERMS {
+    if terms.len() > MOST_NUMERALS {
         return Err(RowFault::TooMuch);
     }
     read_terms(alloc, parameters, terms.as_slice())

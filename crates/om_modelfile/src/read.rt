@@ -7,8 +7,10 @@ ghost use Rattle.om_modelfile.specs.Views.{top_view};
 
 use crate::fault::{ModelFault, RowFault};
 use crate::keys::{has_all, knows_all, text_at, values_at, values_or_none};
+use crate::limits::MOST_PARAMETERS;
 use crate::rows::{ParameterRows, ParticleRows, VertexRows, read_rows};
 use crate::texts::read_name;
+use om_model::limits::{MOST_PARTICLES, MOST_VERTICES};
 use om_model::{Model, Name, check_model};
 use om_ring::{Ring, Steps};
 use std::alloc::Global;
@@ -17,12 +19,6 @@ use toml::{Table, Value};
 const REQUIRED: [&str; 3] = ["model", "particle", "vertex"];
 
 const KEYS: [&str; 4] = ["model", "particle", "vertex", "parameter"];
-
-const MOST_PARAMETERS: usize = 256;
-
-const MOST_PARTICLES: usize = 64;
-
-const MOST_VERTICES: usize = 512;
 
 /// The model that the bytes of a TOML file say, which meets all rules of [`om_model::check_model`]; or the first fault:
 /// of the form of the file, with the top first, then each row of the parameters, the particles and the vertices in turn,
@@ -87,7 +83,7 @@ struct TopValues<'a> {
 #[tactic(auto, unfolding(crate::specs::ModelOf::top_of))]
 fn read_top(table: &Table) -> Result<TopValues<'_>, RowFault>
     ensures top { Gives top_view result (top_of (table_view table.now)) }
-    ensures limits { IfOk result (λ top. (length top.parameters.now ≤ 256) × (length top.particles.now ≤ 64) × (length top.vertices.now ≤ 512)) }
+    ensures limits { IfOk result (λ top. (length top.parameters.now ≤ MOST_PARAMETERS) × (length top.particles.now ≤ MOST_PARTICLES) × (length top.vertices.now ≤ MOST_VERTICES)) }
 {
     if !knows_all(table, &KEYS) {
         return Err(RowFault::UnknownKey);

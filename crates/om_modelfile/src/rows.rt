@@ -1,7 +1,8 @@
 //! The rows of a table, one after the other.
-ghost use Rattle.std.specs.Prelude.{◌≡◌, ◌≤◌, IfOk, length, map, Result};
+ghost use Rattle.std.specs.Prelude.{◌≡◌, ◌^◌, ◌≤◌, IfOk, length, map, Result};
 ghost use Rattle.toml.specs.Data.{Data};
 ghost use Rattle.toml.specs.View.{view};
+ghost use Rattle.om_model.specs.declared.limits.TheConstants.{MOST_VERTICES};
 ghost use Rattle.om_modelfile.specs.Each.{rows_of};
 ghost use Rattle.om_modelfile.specs.Faults.{Answers, Gives};
 ghost use Rattle.om_modelfile.specs.Parameters.{parameter_of};
@@ -61,7 +62,7 @@ impl RowKind for ParticleRows<'_> {
 pub(crate) struct VertexRows<'a> {
     pub(crate) parameters: &'a [Parameter],
     pub(crate) particles: &'a [Particle],
-    pub(crate) ghost few: { length particles.now ≤ 32768 },
+    pub(crate) ghost few: { length particles.now ≤ 2 ^ 15 },
 }
 
 impl RowKind for VertexRows<'_> {
@@ -81,7 +82,7 @@ pub(crate) fn read_rows<K: RowKind>(
     table: om_model::Table,
     rows: &[Value],
 ) -> Result<List<K::Row>, ModelFault>
-    requires { length rows.now ≤ 512 }
+    requires { length rows.now ≤ MOST_VERTICES }
     ensures rows { Answers (λ rows. rows) result (rows_of table (K.row_of kind.now) (map view rows.now)) }
     ensures count { IfOk result (λ done. length done ≡ length rows.now) }
 {

@@ -1,5 +1,5 @@
 //! Rows of the vertices.
-ghost use Rattle.std.specs.Prelude.{◌≡◌, ◌≤◌, true, false, length, map, MatchOption, nat_abs};
+ghost use Rattle.std.specs.Prelude.{◌≡◌, ◌^◌, ◌≤◌, true, false, length, map, MatchOption, nat_abs};
 ghost use Rattle.toml.specs.View.{view, table_view};
 ghost use Rattle.om_modelfile.specs.Faults.{Gives};
 ghost use Rattle.om_modelfile.specs.Keys.{texts_at};
@@ -8,9 +8,11 @@ ghost use Rattle.om_modelfile.specs.Views.{vertex_texts_view};
 
 use crate::fault::RowFault;
 use crate::keys::{has_all, knows_all, number_or, text_at, texts_of, values_at};
+use crate::limits::{MOST_FACTORS, MOST_FIELDS};
 use crate::parameter::Parameter;
 use crate::product::read_product;
 use crate::texts::read_structure;
+use om_model::limits::HIGHEST_ORDER;
 use om_model::{Particle, Product, Vertex, field_named};
 use om_ring::List;
 use std::alloc::Global;
@@ -19,12 +21,6 @@ use toml::{Table, Value};
 const REQUIRED: [&str; 3] = ["fields", "factors", "structure"];
 
 const KEYS: [&str; 4] = ["fields", "factors", "structure", "order"];
-
-const MOST_FIELDS: usize = 4;
-
-const MOST_FACTORS: usize = 3;
-
-const HIGHEST_ORDER: i64 = 12;
 
 #[derive(Drop)]
 struct VertexTexts<'a> {
@@ -42,7 +38,7 @@ pub(crate) fn read_vertex(
     particles: &[Particle],
     row: &Value,
 ) -> Result<Vertex, RowFault>
-    requires { length particles.now ≤ 32768 }
+    requires { length particles.now ≤ 2 ^ 15 }
     ensures { Gives (λ vertex. vertex) result (vertex_of parameters.now particles.now (view row.now)) }
 {
     let Some(table) = row.as_table() else {
@@ -84,7 +80,7 @@ fn vertex_from(
     particles: &[Particle],
     texts: &VertexTexts,
 ) -> Result<Vertex, RowFault>
-    requires { length particles.now ≤ 32768 }
+    requires { length particles.now ≤ 2 ^ 15 }
     ensures { Gives (λ vertex. vertex) result (vertex_from parameters.now particles.now (vertex_texts_view texts.now)) }
 {
     let structure = read_structure(texts.structure)?;
@@ -102,7 +98,7 @@ fn vertex_from(
 }
 
 fn read_fields(alloc: Global, particles: &[Particle], names: &[&str]) -> Result<List<u16>, RowFault>
-    requires { length particles.now ≤ 32768 }
+    requires { length particles.now ≤ 2 ^ 15 }
     ensures { Gives (λ fields. fields) result (fields_named particles.now (map (λ s. s.now) names.now)) }
 {
     let mut fields = List::new(alloc);
@@ -119,7 +115,7 @@ fn read_fields(alloc: Global, particles: &[Particle], names: &[&str]) -> Result<
 }
 
 fn read_field(particles: &[Particle], name: &str) -> Result<u16, RowFault>
-    requires { length particles.now ≤ 32768 }
+    requires { length particles.now ≤ 2 ^ 15 }
     ensures { Gives (λ field. field) result (field_in particles.now name.now) }
 {
     match field_named(particles, name.as_bytes()) {
@@ -136,7 +132,7 @@ fn order_within_limits(texts: &VertexTexts) -> Option<u8>
     if texts.fields.len() > MOST_FIELDS || texts.factors.len() > MOST_FACTORS {
         return None;
     }
-    if texts.order < 0 || texts.order > HIGHEST_ORDER {
+    if texts.order < 0 || texts.order > i64::from(HIGHEST_ORDER) {
         return None;
     }
     Some(texts.order as u8)

@@ -12,7 +12,7 @@ loop-number-init c =
 
 pub returns-in_err-read : goal.returns-in_err-read
 returns-in_err-read c =
-    let none : None ≡ one_more c.loop-number.read (leg_number c.in-Some.number.now) = c.in_err-read.ensures ∙ ap (one_more c.loop-number.read) c.leg_number.ensures.number in
+    let none : None ≡ one_more c.loop-number.read (leg_number c.in-Some.number.now) = c.in_err-read.ensures ∙ ap (one_more c.loop-number.read) c.leg_number.ensures in
     c.from_residual.ensures
     ∙ sym (read-fault c.loop-number.read c.in-Some.number.now (slice_split (λ b. eqb b 43) c.in-Some.more.now) none)
     ∙ ap (λ ps. with_numbers c.loop-number.read (numbers_above c.loop-number.read.greatest ps)) (sym c.in-Some.ensures.parts)
@@ -20,7 +20,7 @@ returns-in_err-read c =
 
 pub loop-number-preserved : goal.loop-number-preserved
 loop-number-preserved c =
-    let more : Some c.in_ok-read.read ≡ one_more c.loop-number.read (leg_number c.in-Some.number.now) = c.in_ok-read.ensures ∙ ap (one_more c.loop-number.read) c.leg_number.ensures.number in
+    let more : Some c.in_ok-read.read ≡ one_more c.loop-number.read (leg_number c.in-Some.number.now) = c.in_ok-read.ensures ∙ ap (one_more c.loop-number.read) c.leg_number.ensures in
     sym (read-more c.loop-number.read c.in-Some.number.now (slice_split (λ b. eqb b 43) c.in-Some.more.now) c.in_ok-read.read more).0
     ∙ ap (λ ps. with_numbers c.loop-number.read (numbers_above c.loop-number.read.greatest ps)) (sym c.in-Some.ensures.parts)
     ∙ c.loop-number.invariant
@@ -28,7 +28,7 @@ loop-number-preserved c =
 pub returns : goal.returns
 returns c =
     c.with_number-2.ensures
-    ∙ ap (one_more c.loop-number.read) c.leg_number-2.ensures.number
+    ∙ ap (one_more c.loop-number.read) c.leg_number-2.ensures
     ∙ sym (read-last c.loop-number.read c.loop-number.rest.now)
     ∙ ap (λ ps. with_numbers c.loop-number.read (numbers_above c.loop-number.read.greatest ps)) (sym c.in_default.ensures.parts)
     ∙ c.loop-number.invariant
