@@ -11,15 +11,18 @@ use Rattle.om_model.specs.Words.{spin_of_word}
 use Rattle.om_model.specs.FieldNames.{field_from}
 use Rattle.om_model.specs.declared.model.Particle.{Particle}
 use Rattle.om_code.specs.declared.code.Den.{Den}
-use Rattle.om_code.specs.Plain.{field_name, IsNamed, IsPlainDen, IsPlainParticle}
+use Rattle.om_code.specs.Plain.{IsNamed, IsPlainDen, IsPlainParticle}
+use Rattle.om_model.specs.FieldNames.{field_name}
 use Rattle.om_asm.specs.declared.fault.AsmKind.{AsmKind}
 use Rattle.om_asm.specs.InRange.{ParticleInRange}
 use Rattle.om_program_text.specs.ProgramText.{Words}
-use Rattle.om_program_text.specs.Words.{spin_word, colour_word, product_word, set_word}
+use Rattle.om_program_text.specs.Words.{product_word, set_word}
+use Rattle.om_model.specs.Words.{spin_word, colour_word}
 use Rattle.om_asm.specs.Lines.{word_by, no_more, next_word}
 use Rattle.om_asm.specs.Rows.{formed}
 use Rattle.om_ring.specs.ResultSteps.{◌>>=◌}
-use Rattle.om_asm.specs.Reading.{name_of, colour_of, product_of, set_of, named, leg_row, den_row, particle_row}
+use Rattle.om_asm.specs.Reading.{name_of, product_of, set_of, named, leg_row, den_row, particle_row}
+use Rattle.om_model.specs.Words.{colour_of_word}
 use Rattle.om_asm.proofs.SpeltLemmas.{same_bytes}
 use Rattle.om_asm.proofs.ModelWords.{pick}
 use Rattle.om_asm.proofs.ModelWordsAgain.{name_again, spin_again, colour_again, product_again, named_again}
@@ -62,7 +65,7 @@ abbrev a_particle : List ℕ → List ℕ → Spin → List Numeral → List Num
 a_particle n a s m w r c = Ok (record { name = n; anti = a; spin = s; mass = m; width = w; norm = r; colour = c })
 
 abbrev from_colour : List ℕ → List ℕ → Spin → List Numeral → List Numeral → List Numeral → Words → Result Particle AsmKind
-from_colour n a s m w r words = formed (word_by colour_of words) >>= λ c. formed (no_more c.1) >>= λ _. a_particle n a s m w r c.0
+from_colour n a s m w r words = formed (word_by colour_of_word words) >>= λ c. formed (no_more c.1) >>= λ _. a_particle n a s m w r c.0
 
 abbrev from_norm : List ℕ → List ℕ → Spin → List Numeral → List Numeral → Words → Result Particle AsmKind
 from_norm n a s m w words = formed (word_by product_of words) >>= λ r. from_colour n a s m w r.0 r.1
@@ -88,4 +91,4 @@ particle_again p h q =
     ∙ say product_of (product_word p.mass) p.mass _ (λ m. from_width p.name p.anti p.spin m.0 m.1) (product_again p.mass q.mass h.mass)
     ∙ say product_of (product_word p.width) p.width _ (λ w. from_norm p.name p.anti p.spin p.mass w.0 w.1) (product_again p.width q.width h.width)
     ∙ say product_of (product_word p.norm) p.norm _ (λ r. from_colour p.name p.anti p.spin p.mass p.width r.0 r.1) (product_again p.norm q.norm h.norm)
-    ∙ say colour_of (colour_word p.colour) p.colour [] (λ c. formed (no_more c.1) >>= λ _. a_particle p.name p.anti p.spin p.mass p.width p.norm c.0) (colour_again p.colour)
+    ∙ say colour_of_word (colour_word p.colour) p.colour [] (λ c. formed (no_more c.1) >>= λ _. a_particle p.name p.anti p.spin p.mass p.width p.norm c.0) (colour_again p.colour)

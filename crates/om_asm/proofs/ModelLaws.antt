@@ -8,15 +8,18 @@ use Rattle.om_model.specs.Words.{spin_of_word}
 use Rattle.om_model.specs.FieldNames.{field_named}
 use Rattle.om_model.specs.declared.model.Particle.{Particle}
 use Rattle.om_code.specs.declared.code.Den.{Den}
-use Rattle.om_code.specs.Plain.{field_name, IsNamed, IsProduct, IsPlainDen, IsPlainParticle}
+use Rattle.om_code.specs.Plain.{IsNamed, IsProduct, IsPlainDen, IsPlainParticle}
+use Rattle.om_model.specs.FieldNames.{field_name}
 use Rattle.om_asm.specs.declared.fault.AsmKind.{AsmKind}
 use Rattle.om_asm.specs.declared.fault.AsmKind.TheVariants.{Grammar}
 use Rattle.om_program_text.specs.ProgramText.{Words, leg_words, den_words, particle_words}
-use Rattle.om_program_text.specs.Words.{spin_word, colour_word, product_word, set_word}
+use Rattle.om_program_text.specs.Words.{product_word, set_word}
+use Rattle.om_model.specs.Words.{spin_word, colour_word}
 use Rattle.om_asm.specs.Lines.{word_by, no_more, next_word}
 use Rattle.om_asm.specs.Rows.{formed}
 use Rattle.om_ring.specs.ResultSteps.{◌>>=◌}
-use Rattle.om_asm.specs.Reading.{name_of, colour_of, product_of, set_of, known, named, leg_row, den_row, particle_row}
+use Rattle.om_asm.specs.Reading.{name_of, product_of, set_of, known, named, leg_row, den_row, particle_row}
+use Rattle.om_model.specs.Words.{colour_of_word}
 use Rattle.om_asm.specs.Slots.{slot_of}
 use Rattle.om_asm.proofs.WordLaws.{bind_some}
 use Rattle.om_asm.proofs.RowLaws.{bind_ok, formed_ok}
@@ -98,7 +101,7 @@ a_particle name anti spin mass width norm colour = record { name = name; anti = 
 
 -- the last words of a particle line, behind what was read before
 abbrev pub from_colour : List ℕ → List ℕ → Spin → List Numeral → List Numeral → List Numeral → Words → Result Particle AsmKind
-from_colour n a s m w r words = formed (word_by colour_of words) >>= λ c. formed (no_more c.1) >>= λ _. Ok (a_particle n a s m w r c.0)
+from_colour n a s m w r words = formed (word_by colour_of_word words) >>= λ c. formed (no_more c.1) >>= λ _. Ok (a_particle n a s m w r c.0)
 
 abbrev pub from_norm : List ℕ → List ℕ → Spin → List Numeral → List Numeral → Words → Result Particle AsmKind
 from_norm n a s m w words = formed (word_by product_of words) >>= λ r. from_colour n a s m w r.0 r.1
@@ -121,7 +124,7 @@ record ColourRead (n a : List ℕ) (s : Spin) (m w r : List Numeral) (words : Wo
 
 colour_read : (n a : List ℕ) (s : Spin) (m w r : List Numeral) (words : Words) (p : Particle) → from_colour n a s m w r words ≡ Ok p → ColourRead n a s m w r words p
 colour_read n a s m w r words p e =
-    let c = said colour_of colour_word (λ _. Unit {0}) colour_spells words (λ c. formed (no_more c.1) >>= λ _. Ok (a_particle n a s m w r c.0)) p e in
+    let c = said colour_of_word colour_word (λ _. Unit {0}) colour_spells words (λ c. formed (no_more c.1) >>= λ _. Ok (a_particle n a s m w r c.0)) p e in
     let z = none_left c.1 (λ _. Ok (a_particle n a s m w r c.0)) p c.4 in
     subst (λ (q : Particle). ColourRead n a s m w r words q) (ok_same (a_particle n a s m w r c.0) p z.1) (record { particle = refl; texts = c.2 ∙ ap (λ (ws : Words). colour_word c.0 ∷ ws) z.0 })
 

@@ -22,17 +22,21 @@ use Rattle.om_model.specs.Name.{is_name}
 use Rattle.om_model.specs.Words.{structure_of_word, spin_of_word}
 use Rattle.om_model.specs.FieldNames.{field_named, field_from}
 use Rattle.om_model.specs.declared.model.Particle.{Particle}
-use Rattle.om_code.specs.Plain.{name_in, field_name, IsNamed, IsProduct, IsPlainFlow}
+use Rattle.om_code.specs.Plain.{IsNamed, IsProduct, IsPlainFlow}
+use Rattle.om_model.specs.FieldNames.{name_in, field_name}
 use Rattle.om_program_text.specs.ProgramText.{Words}
-use Rattle.om_program_text.specs.Words.{spin_word, structure_word, colour_word, product_word, set_word}
+use Rattle.om_program_text.specs.Words.{product_word, set_word}
+use Rattle.om_model.specs.Words.{spin_word, structure_word, colour_word}
 use Rattle.om_asm.specs.Lines.{word_by, no_more}
 use Rattle.om_ring.specs.OptionSteps.{◌>>=◌}
 use Rattle.om_ring.specs.Spelt.{decimal_below}
 use Rattle.om_asm.specs.Lists.{list_from}
-use Rattle.om_asm.specs.Reading.{name_of, colour_of, canonical, factor_of, product_of, legs_from, spelled_set, set_of}
+use Rattle.om_asm.specs.Reading.{name_of, canonical, factor_of, product_of, legs_from, spelled_set, set_of}
+use Rattle.om_model.specs.Words.{colour_of_word}
 use Rattle.om_asm.specs.Flows.{ends_of_line, ends_from, no_ends, flow_with, flow_of}
 use Rattle.om_asm.specs.InRange.{NumeralFits}
 use Rattle.om_asm.specs.FirstBad.{IsName, IsReadableProduct}
+use Rattle.om_model.proofs.WordLaws.{words_are_read}
 use Rattle.om_asm.proofs.NumeralsFit.{numeral_fits}
 use Rattle.om_asm.proofs.SpeltLemmas.{same_bytes, number_empty}
 use Rattle.om_asm.proofs.WordLaws.{bind_some, took, ended, number_law}
@@ -45,90 +49,14 @@ pub pick : {A : Type 0} (b : Bool) (x : A) (rest : Option A) (y : A) → cond b 
 pick true x rest y e = inl (refl, cc)
 pick false x rest y e = inr (refl, e)
 
--- a word of a list of words
-a_word : {A : Type 0} (text : A → List ℕ) (w key : List ℕ) (x y : A) → text x ≡ key → bytes_eq w key ≡ true → x ≡ y → text y ≡ w
-a_word text w key x y t b e = ap text (sym e) ∙ t ∙ sym (same_bytes w key b)
-
 pub spin_spells : Spells spin_of_word spin_word (λ _. Unit {0})
-unfolding spin_of_word
-spin_spells w x e = (
-  elim (pick (bytes_eq w (codes "scalar")) Scalar _ x e) [
-    | inl p ↦ a_word spin_word w (codes "scalar") Scalar x refl p.0 p.1
-    | inr p ↦ elim (pick (bytes_eq w (codes "dirac")) Dirac _ x p.1) [
-      | inl q ↦ a_word spin_word w (codes "dirac") Dirac x refl q.0 q.1
-      | inr q ↦ elim (pick (bytes_eq w (codes "vector")) Vector None x q.1) [
-        | inl r ↦ a_word spin_word w (codes "vector") Vector x refl r.0 r.1
-        | inr r ↦ absurd (let n = r.1 in cc)
-      ]
-    ]
-  ],
-  tt,
-)
+spin_spells w x e = (sym ((words_are_read.1 x w).0 e), tt)
 
-pub colour_spells : Spells colour_of colour_word (λ _. Unit {0})
-colour_spells w x e = (
-  elim (pick (bytes_eq w (codes "1")) One _ x e) [
-    | inl p ↦ a_word colour_word w (codes "1") One x refl p.0 p.1
-    | inr p ↦ elim (pick (bytes_eq w (codes "3")) Three _ x p.1) [
-      | inl q ↦ a_word colour_word w (codes "3") Three x refl q.0 q.1
-      | inr q ↦ elim (pick (bytes_eq w (codes "-3")) AntiThree _ x q.1) [
-        | inl r ↦ a_word colour_word w (codes "-3") AntiThree x refl r.0 r.1
-        | inr r ↦ elim (pick (bytes_eq w (codes "8")) Eight None x r.1) [
-          | inl t ↦ a_word colour_word w (codes "8") Eight x refl t.0 t.1
-          | inr t ↦ absurd (let n = t.1 in cc)
-        ]
-      ]
-    ]
-  ],
-  tt,
-)
+pub colour_spells : Spells colour_of_word colour_word (λ _. Unit {0})
+colour_spells w x e = (sym ((words_are_read.2 x w).0 e), tt)
 
 pub structure_spells : Spells structure_of_word structure_word (λ _. Unit {0})
-unfolding structure_of_word
-structure_spells w x e = (
-  elim (pick (bytes_eq w (codes "sss")) Sss _ x e) [
-    | inl p0 ↦ a_word structure_word w (codes "sss") Sss x refl p0.0 p0.1
-    | inr p0 ↦
-        elim (pick (bytes_eq w (codes "ssss")) Ssss _ x p0.1) [
-          | inl p1 ↦ a_word structure_word w (codes "ssss") Ssss x refl p1.0 p1.1
-          | inr p1 ↦
-              elim (pick (bytes_eq w (codes "vss")) Vss _ x p1.1) [
-                | inl p2 ↦ a_word structure_word w (codes "vss") Vss x refl p2.0 p2.1
-                | inr p2 ↦
-                    elim (pick (bytes_eq w (codes "vvs")) Vvs _ x p2.1) [
-                      | inl p3 ↦ a_word structure_word w (codes "vvs") Vvs x refl p3.0 p3.1
-                      | inr p3 ↦
-                          elim (pick (bytes_eq w (codes "vvss")) Vvss _ x p3.1) [
-                            | inl p4 ↦ a_word structure_word w (codes "vvss") Vvss x refl p4.0 p4.1
-                            | inr p4 ↦
-                                elim (pick (bytes_eq w (codes "ffs")) Ffs _ x p4.1) [
-                                  | inl p5 ↦ a_word structure_word w (codes "ffs") Ffs x refl p5.0 p5.1
-                                  | inr p5 ↦
-                                      elim (pick (bytes_eq w (codes "ffv")) Ffv _ x p5.1) [
-                                        | inl p6 ↦ a_word structure_word w (codes "ffv") Ffv x refl p6.0 p6.1
-                                        | inr p6 ↦
-                                            elim (pick (bytes_eq w (codes "vvv")) Vvv _ x p6.1) [
-                                              | inl p7 ↦ a_word structure_word w (codes "vvv") Vvv x refl p7.0 p7.1
-                                              | inr p7 ↦
-                                                  elim (pick (bytes_eq w (codes "vvvv")) Vvvv _ x p7.1) [
-                                                    | inl p8 ↦ a_word structure_word w (codes "vvvv") Vvvv x refl p8.0 p8.1
-                                                    | inr p8 ↦
-                                                        elim (pick (bytes_eq w (codes "gluon4")) Gluon4 None x p8.1) [
-                                                          | inl p9 ↦ a_word structure_word w (codes "gluon4") Gluon4 x refl p9.0 p9.1
-                                                          | inr p9 ↦
-                                                              absurd (let n = p9.1 in cc)
-                                                        ]
-                                                  ]
-                                            ]
-                                      ]
-                                ]
-                          ]
-                    ]
-              ]
-        ]
-  ],
-  tt,
-)
+structure_spells w x e = (sym ((words_are_read.0 x w).0 e), tt)
 
 pub name_spells : Spells name_of (λ n. n) IsName
 name_spells w x e = elim (pick (is_name w) w None x e) [ inl p ↦ (sym p.1, ap is_name (sym p.1) ∙ p.0) | inr p ↦ absurd (let n = p.1 in cc) ]

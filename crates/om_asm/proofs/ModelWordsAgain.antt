@@ -15,13 +15,17 @@ use Rattle.om_model.specs.Name.{is_name}
 use Rattle.om_model.specs.Words.{structure_of_word, spin_of_word}
 use Rattle.om_model.specs.FieldNames.{field_named}
 use Rattle.om_model.specs.declared.model.Particle.{Particle}
-use Rattle.om_code.specs.Plain.{field_name, IsNamed, IsProduct}
+use Rattle.om_code.specs.Plain.{IsNamed, IsProduct}
+use Rattle.om_model.specs.FieldNames.{field_name}
+use Rattle.om_model.proofs.WordLaws.{words_are_read}
 use Rattle.om_asm.specs.declared.fault.AsmKind.TheVariants.{Grammar}
 use Rattle.om_program_text.specs.ProgramText.{Words}
-use Rattle.om_program_text.specs.Words.{spin_word, structure_word, colour_word, product_word}
+use Rattle.om_program_text.specs.Words.{product_word}
+use Rattle.om_model.specs.Words.{spin_word, structure_word, colour_word}
 use Rattle.om_ring.specs.OptionSteps.{◌>>=◌}
 use Rattle.om_asm.specs.Lists.{list_from}
-use Rattle.om_asm.specs.Reading.{name_of, colour_of, canonical, factor_of, product_of, known, named}
+use Rattle.om_asm.specs.Reading.{name_of, canonical, factor_of, product_of, known, named}
+use Rattle.om_model.specs.Words.{colour_of_word}
 use Rattle.om_asm.proofs.SpeltLemmas.{bytes_same}
 use Rattle.om_asm.proofs.Visible.{Without, split_join, decimal_without}
 
@@ -29,31 +33,14 @@ pub name_again : (n : List ℕ) → is_name n ≡ true → name_of n ≡ Some n
 name_again n h = ap (λ b. cond b (Some n) None) h
 
 pub spin_again : (s : Spin) → spin_of_word (spin_word s) ≡ Some s
-unfolding spin_of_word
-spin_again Scalar = refl
-spin_again Dirac = refl
-spin_again Vector = refl
+spin_again s = (words_are_read.1 s (spin_word s)).1 refl
 
 pub structure_again : (s : Structure) → structure_of_word (structure_word s) ≡ Some s
-unfolding structure_of_word
-structure_again Sss = refl
-structure_again Ssss = refl
-structure_again Vss = refl
-structure_again Vvs = refl
-structure_again Vvss = refl
-structure_again Ffs = refl
-structure_again Ffv = refl
-structure_again Vvv = refl
-structure_again Vvvv = refl
-structure_again Gluon4 = refl
+structure_again s = (words_are_read.0 s (structure_word s)).1 refl
 
-pub colour_again : (c : Colour) → colour_of (colour_word c) ≡ Some c
-colour_again One = refl
-colour_again Three = refl
-colour_again AntiThree = refl
-colour_again Eight = refl
+pub colour_again : (c : Colour) → colour_of_word (colour_word c) ≡ Some c
+colour_again c = (words_are_read.2 c (colour_word c)).1 refl
 
--- a numeral whose numbers fit
 abbrev pub Fits : Numeral → Type 0
 Fits x = (x.num < 2 ^ 64) × (x.den < 2 ^ 64)
 

@@ -17,12 +17,14 @@ use Rattle.om_code.specs.declared.code.Den.{Den}
 use Rattle.om_asm.specs.declared.fault.AsmKind.{AsmKind}
 use Rattle.om_asm.specs.declared.fault.AsmKind.TheVariants.{Grammar, Name}
 use Rattle.om_program_text.specs.ProgramText.{Words}
-use Rattle.om_program_text.specs.Words.{structure_word, product_word, set_word}
+use Rattle.om_program_text.specs.Words.{product_word, set_word}
+use Rattle.om_model.specs.Words.{structure_word}
 use Rattle.om_asm.specs.Lines.{word_by, no_more, next_word}
 use Rattle.om_ring.specs.Spelt.{decimal_below}
 use Rattle.om_asm.specs.Rows.{formed}
 use Rattle.om_ring.specs.ResultSteps.{◌>>=◌}
-use Rattle.om_asm.specs.Reading.{name_of, colour_of, product_of, set_of, known, named, leg_row, den_row, particle_row}
+use Rattle.om_asm.specs.Reading.{name_of, product_of, set_of, known, named, leg_row, den_row, particle_row}
+use Rattle.om_model.specs.Words.{colour_of_word}
 use Rattle.om_asm.specs.Slots.{slot_of, fourth_slot, factors_of}
 use Rattle.om_asm.specs.Vertices.{vertex_row}
 use Rattle.om_asm.specs.FirstBad.{IsName, IsReadableProduct, IsLegForm, IsDenForm, IsVertexForm, NamesFields}
@@ -64,7 +66,7 @@ particle_never words =
     then_never (word_by product_of s.1) (λ m. from_width n.0 a.0 s.0 m.0 m.1) (λ m.
     then_never (word_by product_of m.1) (λ w. from_norm n.0 a.0 s.0 m.0 w.0 w.1) (λ w.
     then_never (word_by product_of w.1) (λ r. from_colour n.0 a.0 s.0 m.0 w.0 r.0 r.1) (λ r.
-    then_never (word_by colour_of r.1) (λ c. formed (no_more c.1) >>= λ _. Ok (a_particle n.0 a.0 s.0 m.0 w.0 r.0 c.0)) (λ c.
+    then_never (word_by colour_of_word r.1) (λ c. formed (no_more c.1) >>= λ _. Ok (a_particle n.0 a.0 s.0 m.0 w.0 r.0 c.0)) (λ c.
     then_never (no_more c.1) (λ _. Ok (a_particle n.0 a.0 s.0 m.0 w.0 r.0 c.0)) (λ _ k e. absurd cc))))))))
 
 -- ---- what the forms say of the first word

@@ -8,11 +8,13 @@ use Rattle.om_model.specs.Words.{structure_of_word}
 use Rattle.om_model.specs.FieldNames.{field_named}
 use Rattle.om_model.specs.declared.model.Particle.{Particle}
 use Rattle.om_model.specs.declared.model.Vertex.{Vertex}
-use Rattle.om_code.specs.Plain.{field_name, IsNamed, IsProduct, IsPlainVertex}
+use Rattle.om_code.specs.Plain.{IsNamed, IsProduct, IsPlainVertex}
+use Rattle.om_model.specs.FieldNames.{field_name}
 use Rattle.om_asm.specs.declared.fault.AsmKind.{AsmKind}
 use Rattle.om_asm.specs.declared.fault.AsmKind.TheVariants.{Grammar, Name}
 use Rattle.om_program_text.specs.ProgramText.{Words}
-use Rattle.om_program_text.specs.Words.{structure_word, product_word}
+use Rattle.om_program_text.specs.Words.{product_word}
+use Rattle.om_model.specs.Words.{structure_word}
 use Rattle.om_asm.specs.Lines.{word_by}
 use Rattle.om_ring.specs.Spelt.{decimal_below}
 use Rattle.om_asm.specs.Rows.{formed}

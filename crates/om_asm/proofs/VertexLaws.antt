@@ -5,10 +5,12 @@ use Rattle.om_lorentz.specs.declared.structures.Structure.{Structure}
 use Rattle.om_model.specs.Words.{structure_of_word}
 use Rattle.om_model.specs.declared.model.Particle.{Particle}
 use Rattle.om_model.specs.declared.model.Vertex.{Vertex}
-use Rattle.om_code.specs.Plain.{field_name, IsProduct, IsPlainVertex}
+use Rattle.om_code.specs.Plain.{IsProduct, IsPlainVertex}
+use Rattle.om_model.specs.FieldNames.{field_name}
 use Rattle.om_asm.specs.declared.fault.AsmKind.{AsmKind}
 use Rattle.om_program_text.specs.ProgramText.{Words, vertex_words}
-use Rattle.om_program_text.specs.Words.{structure_word, product_word}
+use Rattle.om_program_text.specs.Words.{product_word}
+use Rattle.om_model.specs.Words.{structure_word}
 use Rattle.om_asm.specs.Lines.{word_by}
 use Rattle.om_ring.specs.Spelt.{decimal_below}
 use Rattle.om_asm.specs.Rows.{formed}

@@ -1,7 +1,8 @@
 -- What a program text says: its code, or the first bad line.
-use Rattle.std.specs.Prelude.{ℕ, ◌+◌, ◌^◌, ◌<◌, ◌==◌, nat_lt, if◌then◌else◌, ◌&&◌, List, drop, length, codes, Option, Some, None, Result, Ok, Err}
+use Rattle.std.specs.Prelude.{ℕ, ◌+◌, ◌^◌, ◌<◌, ◌==◌, nat_lt, if◌then◌else◌, ◌&&◌, Bool, List, drop, length, codes, Option, Some, None, Result, Ok, Err}
 use Rattle.std.specs.Str.{bytes_eq}
 use Rattle.om_model.specs.declared.model.Particle.{Particle}
+use Rattle.om_code.specs.declared.code.TheConstants.{MOST_PARTICLE_LINES}
 use Rattle.om_code.specs.declared.code.Instr.{Instr}
 use Rattle.om_code.specs.declared.code.Code.{Code}
 use Rattle.om_code.specs.Plain.{registers_named, slots_for}
@@ -29,9 +30,12 @@ one_line read a = line_or_bad (read (first_line a.lines)) a
 abbrev pub rows_at : {A : Type 0} → List ℕ → (Words → Result A AsmKind) → At → Result (List A × At) BadLine
 rows_at key row_of a = rows_from (λ _ w. bytes_eq w key) (λ _ words. row_of words) 0 a.number a.lines
 
--- at most 32,768 particles
+-- a particle line, where so many stand before it: only so many are taken
+abbrev pub begins_particle : ℕ → List ℕ → Bool
+begins_particle count w = bytes_eq w (codes "particle") && nat_lt count MOST_PARTICLE_LINES
+
 abbrev pub particles_at : At → Result (List Particle × At) BadLine
-particles_at a = rows_from (λ count w. bytes_eq w (codes "particle") && nat_lt count 32768) (λ _ words. particle_row words) 0 a.number a.lines
+particles_at a = rows_from begins_particle (λ _ words. particle_row words) 0 a.number a.lines
 
 -- version 1 has no such line
 abbrev pub slots_at : ℕ → At → Result (ℕ × At) BadLine

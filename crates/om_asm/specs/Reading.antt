@@ -7,10 +7,9 @@ use Rattle.om_ring.specs.declared.numeral.NumeralFault.{NumeralFault}
 use Rattle.om_ring.specs.Numerals.{numeral_text}
 use Rattle.om_ring.specs.NumeralOf.{numeral_of}
 use Rattle.om_legs.specs.Legs.{set_of_one, union}
-use Rattle.om_colour.specs.declared.Colour.{Colour}
-use Rattle.om_colour.specs.declared.Colour.TheVariants.{One, Three, AntiThree, Eight}
+use Rattle.om_model.specs.declared.limits.TheConstants.{MOST_NUMERALS}
 use Rattle.om_model.specs.Name.{is_name}
-use Rattle.om_model.specs.Words.{spin_of_word}
+use Rattle.om_model.specs.Words.{spin_of_word, colour_of_word}
 use Rattle.om_model.specs.FieldNames.{field_named}
 use Rattle.om_model.specs.declared.model.Particle.{Particle}
 use Rattle.om_code.specs.declared.code.Den.{Den}
@@ -28,14 +27,6 @@ use Rattle.om_asm.specs.Lists.{list_from}
 abbrev pub name_of : List ℕ → Option (List ℕ)
 name_of word = if is_name word then Some word else None
 
-abbrev pub colour_of : List ℕ → Option Colour
-colour_of word =
-    if bytes_eq word (codes "1") then Some One
-    else if bytes_eq word (codes "3") then Some Three
-    else if bytes_eq word (codes "-3") then Some AntiThree
-    else if bytes_eq word (codes "8") then Some Eight
-    else None
-
 -- a numeral in its canonical spelling
 abbrev pub canonical : List ℕ → Result Numeral NumeralFault → Option Numeral
 canonical word (Ok x) = if bytes_eq (numeral_text x) word then Some x else None
@@ -46,7 +37,7 @@ factor_of word = canonical word (numeral_of word)
 
 -- 1 to 8 canonical numerals with stars between
 abbrev pub product_of : List ℕ → Option (List Numeral)
-product_of word = list_from factor_of 8 0 (slice_split (λ b. b == 42) word)
+product_of word = list_from factor_of MOST_NUMERALS 0 (slice_split (λ b. b == 42) word)
 
 -- the union of the sets of the legs that pieces name, each 1 to 12
 unfoldable pub legs_from : ℕ → Words → Option ℕ
@@ -93,6 +84,6 @@ particle_row words = do
   mass ← formed (word_by product_of spin.1)
   width ← formed (word_by product_of mass.1)
   norm ← formed (word_by product_of width.1)
-  colour ← formed (word_by colour_of norm.1)
+  colour ← formed (word_by colour_of_word norm.1)
   _ ← formed (no_more colour.1)
   Ok (record { name = name.0; anti = anti.0; spin = spin.0; mass = mass.0; width = width.0; norm = norm.0; colour = colour.0 })

@@ -1,6 +1,7 @@
 //! The fields of a model by their names.
 ghost use Rattle.std.specs.Prelude.{◌≡◌, ℕ, ◌<◌, ◌≤◌, ◌*◌, ◌+◌, List as ListOf, length, IfOk, OnOk};
 ghost use Rattle.om_model.specs.FieldNames.{field_named};
+ghost use Rattle.om_code.specs.declared.code.TheConstants.{MOST_PARTICLE_LINES};
 ghost use Rattle.om_asm.specs.Fields.{HasFirstFields, named_in, or_else, where_named};
 
 use om_model::Particle;
@@ -31,7 +32,7 @@ impl<'a> Model for Fields<'a> {
 impl<'a> Fields<'a> {
     /// The fields of particles.
     pub(crate) fn of(alloc: Global, particles: &'a List<Particle>) -> Result<Fields<'a>, NoMemory>
-        requires { length particles.now ≤ 32768 }
+        requires { length particles.now ≤ MOST_PARTICLE_LINES }
         ensures { IfOk result (λ f. f ≡ particles.now) }
     {
         let by_name = first_fields(alloc, particles.as_slice())?;
@@ -52,7 +53,7 @@ fn first_fields<'a>(
     alloc: Global,
     particles: &'a [Particle],
 ) -> Result<BTreeMap<&'a [u8], u16>, NoMemory>
-    requires { length particles.now ≤ 32768 }
+    requires { length particles.now ≤ MOST_PARTICLE_LINES }
     ensures { IfOk result (λ m. HasFirstFields particles.now m) }
 {
     let mut by_name = BTreeMap::new(alloc);

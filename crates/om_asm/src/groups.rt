@@ -1,11 +1,12 @@
 //! The groups of lines that name particles, vertices, legs, flows and denominators.
-ghost use Rattle.std.specs.Prelude.{◌≡◌, ◌≤◌, ◌&&◌, IfOk, codes, length, nat_lt};
+ghost use Rattle.std.specs.Prelude.{◌≡◌, ◌≤◌, IfOk, codes, length};
 ghost use Rattle.std.specs.Str.{bytes_eq};
 ghost use Rattle.om_asm.specs.Rows.{Gives, GivesAt, formed};
 ghost use Rattle.om_asm.specs.Reading.{particle_row, leg_row, den_row};
 ghost use Rattle.om_asm.specs.Vertices.{vertex_row};
 ghost use Rattle.om_asm.specs.Flows.{flow_line};
-ghost use Rattle.om_asm.specs.Program.{particles_at, rows_at};
+ghost use Rattle.om_asm.specs.Program.{begins_particle, particles_at, rows_at};
+ghost use Rattle.om_code.specs.declared.code.TheConstants.{MOST_PARTICLE_LINES};
 
 use crate::fault::{AsmFault, AsmKind, LineFault};
 use crate::field_lines::{read_den_line, read_leg_line};
@@ -15,13 +16,11 @@ use crate::lines::{Lines, Words};
 use crate::particle_line::read_particle_line;
 use crate::rows::{LineKind, read_list};
 use crate::vertex_line::read_vertex_line;
-use om_code::Den;
+use om_code::{Den, MOST_PARTICLE_LINES};
 use om_colour::Flow;
 use om_model::{Particle, Vertex};
 use om_ring::List;
 use std::alloc::Global;
-
-const MOST_PARTICLES: usize = 32768;
 
 const PARTICLE: &[u8] = b"particle";
 
@@ -39,12 +38,12 @@ struct Particles;
 impl LineKind for Particles {
     type Row = Particle;
 
-    ghost starts = { λ _ count w. bytes_eq w (codes "particle") && nat_lt count 32768 };
+    ghost starts = { λ _. begins_particle };
 
     ghost row_of = { λ _ _ words. particle_row words };
 
     fn begins(&self, count: usize, word: &[u8]) -> bool {
-        word == PARTICLE && count < MOST_PARTICLES
+        word == PARTICLE && count < MOST_PARTICLE_LINES
     }
 
     fn read(&self, alloc: Global, _word: &[u8], words: Words) -> Result<Particle, LineFault> {
@@ -137,10 +136,10 @@ impl LineKind for Dens<'_, '_> {
     }
 }
 
-/// At most 32,768 particles.
+/// The particles, at most so many as a code may have lines of.
 pub(crate) fn read_particles(alloc: Global, lines: &mut Lines) -> Result<List<Particle>, AsmFault>
     ensures rows { GivesAt (particles_at lines.old) result lines.new }
-    ensures few { IfOk result (λ particles. length particles ≤ 32768) }
+    ensures few { IfOk result (λ particles. length particles ≤ MOST_PARTICLE_LINES) }
 {
     read_list(alloc, &Particles, lines)
 }

@@ -7,6 +7,7 @@ ghost use Rattle.om_asm.specs.Rows.{Gives, TakesWord, formed};
 use crate::fault::{AsmKind, LineFault};
 use crate::lines::Words;
 use crate::words::{next_colour, next_name, next_spin, read_factor};
+use om_model::limits::MOST_NUMERALS;
 use om_model::{Particle, Product};
 use om_ring::List;
 use std::alloc::Global;
@@ -31,7 +32,7 @@ pub(crate) fn read_product(alloc: Global, word: &[u8]) -> Result<Product, LineFa
         let Some(x) = read_factor(piece) else {
             return Err(LineFault::Bad(AsmKind::Grammar));
         };
-        if product.len() >= 8 {
+        if product.len() >= MOST_NUMERALS {
             return Err(LineFault::Bad(AsmKind::Grammar));
         }
         let Ok(()) = product.push(x) else {

@@ -1,9 +1,9 @@
 //! Reading the words of particles, sets and fields.
 ghost use Rattle.std.specs.Prelude.{◌≡◌, ◌≤◌, ◌==◌, length, Option as Maybe, List as ListOf};
 ghost use Rattle.std.specs.List.{slice_split};
-ghost use Rattle.om_model.specs.Words.{spin_of_word};
+ghost use Rattle.om_model.specs.Words.{spin_of_word, colour_of_word};
 ghost use Rattle.om_asm.specs.Lines.{Scans, word_by};
-ghost use Rattle.om_asm.specs.Reading.{name_of, colour_of, factor_of, legs_from, set_of, named};
+ghost use Rattle.om_asm.specs.Reading.{name_of, factor_of, legs_from, set_of, named};
 ghost use Rattle.om_asm.specs.Rows.{Gives};
 
 use crate::fault::{AsmKind, LineFault};
@@ -12,7 +12,7 @@ use crate::lines::Words;
 use om_colour::Colour;
 use om_legs::LegSet;
 use om_lorentz::Spin;
-use om_model::{Name, spin_of};
+use om_model::{Name, colour_of_word, spin_of};
 use om_program_text::push_set;
 use om_ring::{Line, Numeral, read_decimal_below, read_numeral, show_numeral};
 
@@ -34,22 +34,10 @@ pub(crate) fn next_spin(words: &mut Words) -> Option<Spin>
     spin_of(words.next()?)
 }
 
-fn read_colour(word: &[u8]) -> Option<Colour>
-    ensures { result ≡ colour_of word.now }
-{
-    match word {
-        b"1" => Some(Colour::One),
-        b"3" => Some(Colour::Three),
-        b"-3" => Some(Colour::AntiThree),
-        b"8" => Some(Colour::Eight),
-        _ => None,
-    }
-}
-
 pub(crate) fn next_colour(words: &mut Words) -> Option<Colour>
-    ensures { Scans (word_by colour_of words.old) result words.new }
+    ensures { Scans (word_by colour_of_word words.old) result words.new }
 {
-    read_colour(words.next()?)
+    colour_of_word(words.next()?)
 }
 
 /// A numeral in its canonical spelling.

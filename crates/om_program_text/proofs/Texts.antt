@@ -8,8 +8,9 @@ use Rattle.om_ring.specs.Numerals.{numeral_text}
 use Rattle.om_model.specs.declared.model.Particle.{Particle}
 use Rattle.om_model.specs.declared.model.Vertex.{Vertex}
 use Rattle.om_code.specs.declared.code.Code.{Code}
-use Rattle.om_code.specs.Plain.{field_name}
-use Rattle.om_program_text.specs.Words.{spin_word, structure_word, colour_word, product_word}
+use Rattle.om_model.specs.FieldNames.{field_name}
+use Rattle.om_program_text.specs.Words.{product_word}
+use Rattle.om_model.specs.Words.{spin_word, structure_word, colour_word}
 use Rattle.om_program_text.specs.Writing.{all_of}
 use Rattle.om_program_text.specs.ProgramText.{Words, line_text, lines_text, spaced, particle_words, vertex_words, leg_words, flow_words, den_words, slots_lines, instr_words, end_words, version_words, model_words, program_text}
 use Rattle.om_program_text.specs.Parts.{particle_parts, vertex_parts, model_parts, process_parts, instr_parts, program_parts}

@@ -3,8 +3,9 @@ use Rattle.std.specs.Prelude.{ℕ, List, [], ◌∷◌, ◌++◌, flat_map, deci
 use Rattle.om_model.specs.declared.model.Particle.{Particle}
 use Rattle.om_model.specs.declared.model.Vertex.{Vertex}
 use Rattle.om_code.specs.declared.code.Code.{Code}
-use Rattle.om_code.specs.Plain.{field_name}
-use Rattle.om_program_text.specs.Words.{spin_word, structure_word, colour_word, product_word}
+use Rattle.om_model.specs.FieldNames.{field_name}
+use Rattle.om_program_text.specs.Words.{product_word}
+use Rattle.om_model.specs.Words.{spin_word, structure_word, colour_word}
 use Rattle.om_program_text.specs.Writing.{all_of}
 use Rattle.om_program_text.specs.ProgramText.{line_text, particle_words, vertex_words, leg_words, flow_words, den_words, instr_words, slots_lines, lines_text}
 

@@ -10,8 +10,9 @@ use Rattle.om_code.specs.declared.code.Den.{Den}
 use Rattle.om_code.specs.declared.code.Instr.{Instr}
 use Rattle.om_code.specs.declared.code.Instr.TheVariants.{Load, Fuse, Prop, Key}
 use Rattle.om_code.specs.declared.code.Code.{Code}
-use Rattle.om_code.specs.Plain.{field_name}
-use Rattle.om_program_text.specs.Words.{place_word, sign_word, spin_word, structure_word, colour_word, product_word, set_word}
+use Rattle.om_model.specs.FieldNames.{field_name}
+use Rattle.om_program_text.specs.Words.{place_word, sign_word, product_word, set_word}
+use Rattle.om_model.specs.Words.{spin_word, structure_word, colour_word}
 
 -- the words of a line, each a list of bytes
 abbrev pub Words : Type 0

@@ -4,17 +4,18 @@ ghost use Rattle.om_ring.specs.declared.numeral.Numeral.{Numeral as NumeralOf};
 ghost use Rattle.om_ring.specs.Numerals.{numeral_text};
 ghost use Rattle.om_program_text.specs.ProgramText.{line_text, particle_words, vertex_words};
 ghost use Rattle.om_program_text.specs.Parts.{names_text, particle_parts, vertex_parts};
-ghost use Rattle.om_program_text.specs.Words.{product_word, spin_word as spin_word_of, structure_word as structure_word_of, colour_word as colour_word_of};
+ghost use Rattle.om_program_text.specs.Words.{product_word};
+ghost use Rattle.om_model.specs.Words.{spin_word as spin_word_of, structure_word as structure_word_of, colour_word as colour_word_of};
 ghost use Rattle.om_program_text.specs.Writing.{Writes, outlet, all_of};
-ghost use Rattle.om_code.specs.Plain.{field_name as field_name_of, IsPlainParticle, IsPlainVertex, IsNamed, IsProduct};
+ghost use Rattle.om_code.specs.Plain.{IsPlainParticle, IsPlainVertex, IsNamed, IsProduct};
+ghost use Rattle.om_model.specs.FieldNames.{field_name as field_name_of};
 
 use crate::buffer::make_room;
 use crate::rows::{RowKind, write_each, write_rows};
-use crate::words::{colour_word, field_name, spin_word, structure_word};
 use om_colour::Colour;
 use om_io::{Failed, Sink};
 use om_lorentz::Structure;
-use om_model::{Particle, Product, Vertex};
+use om_model::{Particle, Product, Vertex, colour_word, field_name, spin_word, structure_word};
 use om_ring::{Line, List, Numeral, show_numeral};
 
 /// The particles.
@@ -194,7 +195,7 @@ impl RowKind for SlotFields<'_> {
     fn write<W: Sink>(&self, field: &u16, to: &mut W, line: &mut Line) -> Result<(), Failed> {
         make_room(to, line)?;
         line.push(b" ");
-        line.push(field_name(self.particles, *field));
+        line.push(field_name(self.particles.as_slice(), *field));
         Ok(())
     }
 }

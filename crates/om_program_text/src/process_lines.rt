@@ -5,11 +5,11 @@ ghost use Rattle.om_code.specs.Plain.{IsPlainFlow, IsPlainDen, IsNamed};
 
 use crate::buffer::make_room;
 use crate::rows::RowKind;
-use crate::words::{field_name, push_set};
+use crate::words::push_set;
 use om_code::Den;
 use om_colour::{Flow, flow_text};
 use om_io::{Failed, Sink};
-use om_model::Particle;
+use om_model::{Particle, field_name};
 use om_ring::{Line, List};
 
 /// The legs, each with its field.
@@ -37,7 +37,7 @@ fn push_leg(particles: &List<Particle>, field: u16, line: &mut Line)
     ensures { line.new ≡ line.old ++ line_text (leg_words particles.now field) }
 {
     line.push(b"leg ");
-    line.push(field_name(particles, field));
+    line.push(field_name(particles.as_slice(), field));
     line.push(b"\n");
 }
 
@@ -95,6 +95,6 @@ fn push_den(particles: &List<Particle>, den: &Den, line: &mut Line)
     line.push(b"den ");
     push_set(den.legs, line);
     line.push(b" ");
-    line.push(field_name(particles, den.field));
+    line.push(field_name(particles.as_slice(), den.field));
     line.push(b"\n");
 }

@@ -1,13 +1,9 @@
 //! The words of lines.
 ghost use Rattle.std.specs.Prelude.{◌≡◌, ◌+◌, ◌-◌, ◌<◌, ◌≤◌, ◌^◌, ◌++◌, length, decimal, codes};
-ghost use Rattle.om_program_text.specs.Words.{place_word, sign_word, spin_word, structure_word, colour_word, set_word};
-ghost use Rattle.om_code.specs.Plain.{field_name as field_name_of};
+ghost use Rattle.om_program_text.specs.Words.{place_word, sign_word, set_word};
 
-use om_colour::Colour;
 use om_legs::LegSet;
-use om_lorentz::{Spin, Structure};
-use om_model::Particle;
-use om_ring::{Line, List};
+use om_ring::Line;
 
 /// Appends `k + 1`.
 pub(crate) fn push_place(k: u32, line: &mut Line)
@@ -24,59 +20,6 @@ pub(crate) fn sign_word(minus: bool) -> &'static [u8]
     ensures word { result.now ≡ sign_word minus }
 {
     if minus { b"-" } else { b"+" }
-}
-
-/// The word of a spin.
-pub(crate) fn spin_word(spin: Spin) -> &'static [u8]
-    ensures { result.now ≡ spin_word spin }
-{
-    match spin {
-        Spin::Scalar => b"scalar",
-        Spin::Dirac => b"dirac",
-        Spin::Vector => b"vector",
-    }
-}
-
-/// The word of a structure.
-pub(crate) fn structure_word(structure: Structure) -> &'static [u8]
-    ensures { result.now ≡ structure_word structure }
-{
-    match structure {
-        Structure::Sss => b"sss",
-        Structure::Ssss => b"ssss",
-        Structure::Vss => b"vss",
-        Structure::Vvs => b"vvs",
-        Structure::Vvss => b"vvss",
-        Structure::Ffs => b"ffs",
-        Structure::Ffv => b"ffv",
-        Structure::Vvv => b"vvv",
-        Structure::Vvvv => b"vvvv",
-        Structure::Gluon4 => b"gluon4",
-    }
-}
-
-/// The number of a colour.
-pub(crate) fn colour_word(colour: Colour) -> &'static [u8]
-    ensures { result.now ≡ colour_word colour }
-{
-    match colour {
-        Colour::One => b"1",
-        Colour::Three => b"3",
-        Colour::AntiThree => b"-3",
-        Colour::Eight => b"8",
-    }
-}
-
-/// The name of a field; empty where no particle has it.
-pub(crate) fn field_name(particles: &List<Particle>, field: u16) -> &[u8]
-    ensures name { result.now ≡ field_name_of particles.now field }
-    ensures short { length result.now ≤ 15 }
-{
-    match particles.as_slice().get(usize::from(field / 2)) {
-        None => &[],
-        Some(particle) if field % 2 == 0 => particle.name.bytes(),
-        Some(particle) => particle.anti.bytes(),
-    }
 }
 
 /// Appends the legs of a set, with plus signs between.
