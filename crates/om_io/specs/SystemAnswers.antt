@@ -1,5 +1,5 @@
 -- What the objects of the machine answer for the outcomes of the system.
-use Rattle.std.specs.Prelude.{ℕ, ◌≡◌, ◌≤◌, Result, Ok, Err, MatchBool, MatchResult, nat_le, IsErr}
+use Rattle.std.specs.Prelude.{ℕ, ◌≡◌, Result, Ok, MatchBool, MatchResult, nat_le, IsErr}
 use Rattle.om_io.specs.declared.Failed.{Failed}
 use Rattle.om_io.specs.InMemory.{next_count}
 

@@ -42,7 +42,7 @@ numbers-first last piece pieces ks e = by (leg_number piece) refl
     by None q = absurd (let gone = numbers-bad last piece pieces q in let never : ⊥ = cc in never)
     by (Some k) q = rising k q (nat_lt last k) refl
 
-no_more : (last : ℕ) (ks : List ℕ) → numbers_above last [] ≡ Some ks → ks ≡ []
+pub no_more : (last : ℕ) (ks : List ℕ) → numbers_above last [] ≡ Some ks → ks ≡ []
 unfolding numbers_above
 no_more last ks e = cc
 

@@ -1,17 +1,65 @@
 //! The text of a set of legs, as `1+4+7`.
-ghost use Rattle.std.specs.Prelude.{◌≡◌, ◌<◌, ◌==◌, [], ◌∷◌, IfSome, MatchOption, length, option_map};
+ghost use Rattle.std.specs.Prelude.{◌≡◌, ◌+◌, ◌<◌, ◌≤◌, ◌==◌, [], ◌∷◌, ◌++◌, IfSome, MatchOption, decimal, length, option_map};
 ghost use Rattle.std.specs.List.{position, slice_split};
 ghost use Rattle.om_legs.specs.Legs.{set_of_one};
-ghost use Rattle.om_model.specs.LegSetText.{is_set as is_set_of, leg_number as leg_number_of, legs_read, one_more, set_numbers};
+ghost use Rattle.om_model.specs.LegSetText.{is_set as is_set_of, leg_number as leg_number_of, leg_set_of_word, leg_set_word, legs_read, one_more, set_numbers};
 
 use om_legs::{LegSet, MOST_LEGS};
-use om_ring::read_decimal_below;
+use om_ring::{LINE_BYTES, Line, read_decimal_below};
 
 // What the text of a set of legs names: its legs among 1 to 12, and its greatest number.
 #[derive(Clone, Copy)]
 pub(crate) struct LegsRead {
     pub(crate) legs: LegSet,
     pub(crate) greatest: u8,
+}
+
+/// The most bytes of the text of a set of legs.
+pub const LEG_SET_BYTES: usize = 36;
+
+/// The set of legs that a text means: its legs as decimals, rising, joined by `+`. None exactly where the text is no such set or
+/// names no leg.
+pub fn leg_set_of(text: &[u8]) -> Option<LegSet>
+    ensures { result ≡ leg_set_of_word text.now }
+{
+    let read = read_legs(text)?;
+    if read.greatest > MOST_LEGS {
+        return None;
+    }
+    Some(read.legs)
+}
+
+/// Appends the text of a set of legs.
+pub fn push_leg_set(legs: LegSet, line: &mut Line)
+    requires free { length line.old + LEG_SET_BYTES ≤ LINE_BYTES }
+    ensures text { line.new ≡ line.old ++ leg_set_word legs }
+    ensures short { length line.new ≤ length line.old + LEG_SET_BYTES }
+{
+    let mut count = 0u8;
+    for leg in 1..MOST_LEGS + 1 {
+        if legs.holds(leg) {
+            if count > 0 {
+                line.push(b"+");
+            }
+            push_leg(leg, line);
+            count += 1;
+        }
+    }
+}
+
+// Appends the number of a leg.
+#[tactic(auto, using(std::proofs::lemmas::Fmt::decimal_digit, om_colour::proofs::LegNumbers::decimal_two))]
+fn push_leg(leg: u8, line: &mut Line)
+    requires free { length line.old + 2 ≤ LINE_BYTES }
+    requires leg { leg < 100 }
+    ensures text { line.new ≡ line.old ++ decimal leg }
+    ensures short { length line.new ≤ length line.old + 2 }
+{
+    if leg < 10 {
+        line.push(&[b'0' + leg]);
+    } else {
+        line.push(&[b'0' + leg / 10, b'0' + leg % 10]);
+    }
 }
 
 pub(crate) fn is_set(text: &[u8]) -> bool

@@ -1,0 +1,8 @@
+use Rattle.std.proofs.Common.{drop, ◌↔◌}
+use Rattle.std.specs.List.{AllByRecursion}
+use Rattle.om_code.specs.Plain.{IsPlainParticle}
+use Rattle.om_code.proofs.plain.are_plain_particles.Given as goal
+
+-- whether all are plain is whether those that are left are
+abbrev pub invariant-loop-particle : goal.invariant-loop-particle
+invariant-loop-particle l = AllByRecursion IsPlainParticle l.particles ↔ AllByRecursion IsPlainParticle (drop l.particle-index l.particles)
