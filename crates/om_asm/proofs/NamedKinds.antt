@@ -25,7 +25,7 @@ use Rattle.om_asm.specs.Rows.{formed}
 use Rattle.om_ring.specs.ResultSteps.{◌>>=◌}
 use Rattle.om_asm.specs.Reading.{name_of, product_of, set_of, known, named, leg_row, den_row, particle_row}
 use Rattle.om_model.specs.Words.{colour_of_word}
-use Rattle.om_asm.specs.Slots.{slot_of, fourth_slot, factors_of}
+use Rattle.om_asm.specs.VertexSlots.{slot_of, fourth_slot, factors_of}
 use Rattle.om_asm.specs.Vertices.{vertex_row}
 use Rattle.om_asm.specs.FirstBad.{IsName, IsReadableProduct, IsLegForm, IsDenForm, IsVertexForm, NamesFields}
 use Rattle.om_asm.proofs.WordLaws.{number_law}

@@ -14,7 +14,7 @@ use Rattle.om_ring.specs.OptionSteps.{◌>>=◌}
 use Rattle.om_asm.specs.Spelt.{literal}
 use Rattle.om_asm.specs.Lists.{list_from}
 use Rattle.om_asm.specs.Reading.{product_of}
-use Rattle.om_asm.specs.Slots.{slot_of, fourth_slot, factors_of}
+use Rattle.om_asm.specs.VertexSlots.{slot_of, fourth_slot, factors_of}
 use Rattle.om_asm.specs.Vertices.{known_fields}
 use Rattle.om_asm.specs.FirstBad.{IsReadableProduct}
 use Rattle.om_asm.proofs.SpeltLemmas.{same_bytes}

@@ -13,7 +13,7 @@ use Rattle.om_program_text.specs.ProgramText.{Words}
 use Rattle.om_program_text.specs.Words.{product_word}
 use Rattle.om_ring.specs.OptionSteps.{◌>>=◌}
 use Rattle.om_asm.specs.Reading.{product_of}
-use Rattle.om_asm.specs.Slots.{slot_of, fourth_slot, factors_of}
+use Rattle.om_asm.specs.VertexSlots.{slot_of, fourth_slot, factors_of}
 use Rattle.om_asm.proofs.SpeltLemmas.{same_bytes}
 use Rattle.om_asm.specs.FirstBad.{IsReadableProduct}
 use Rattle.om_asm.proofs.ModelWordsAgain.{product_again, list_again}

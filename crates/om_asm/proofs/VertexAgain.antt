@@ -19,7 +19,7 @@ use Rattle.om_asm.specs.Lines.{word_by}
 use Rattle.om_ring.specs.Spelt.{decimal_below}
 use Rattle.om_asm.specs.Rows.{formed}
 use Rattle.om_ring.specs.ResultSteps.{◌>>=◌}
-use Rattle.om_asm.specs.Slots.{slot_of, fourth_slot, factors_of}
+use Rattle.om_asm.specs.VertexSlots.{slot_of, fourth_slot, factors_of}
 use Rattle.om_asm.specs.Vertices.{known_fields, vertex_row}
 use Rattle.om_asm.proofs.WordLaws.{number_law}
 use Rattle.om_asm.specs.FirstBad.{IsName, IsReadableProduct}

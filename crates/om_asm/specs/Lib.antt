@@ -12,6 +12,6 @@ pub mod Lists
 pub mod Program
 pub mod Reading
 pub mod Rows
-pub mod Slots
 pub mod Spelt
+pub mod VertexSlots
 pub mod Vertices

@@ -10,7 +10,7 @@ use Rattle.om_asm.specs.Lines.{word_by}
 use Rattle.om_ring.specs.Spelt.{decimal_below}
 use Rattle.om_asm.specs.Rows.{formed}
 use Rattle.om_ring.specs.ResultSteps.{◌>>=◌}
-use Rattle.om_asm.specs.Slots.{slot_of, fourth_slot, factors_of}
+use Rattle.om_asm.specs.VertexSlots.{slot_of, fourth_slot, factors_of}
 
 -- the fields of three slots and perhaps a fourth, where all are known
 unfoldable pub known_fields : Option ℕ → Option ℕ → Option ℕ → Option (Option ℕ) → Result (List ℕ) AsmKind

@@ -32,6 +32,7 @@ const FLOW: &[u8] = b"flow";
 
 const DEN: &[u8] = b"den";
 
+// The particle lines.
 #[derive(Drop)]
 struct Particles;
 
@@ -51,6 +52,7 @@ impl LineKind for Particles {
     }
 }
 
+// The vertex lines, whose names are those of the particles.
 #[derive(Drop)]
 struct Vertices<'a, 'p> {
     fields: &'a Fields<'p>,
@@ -72,6 +74,7 @@ impl LineKind for Vertices<'_, '_> {
     }
 }
 
+// The leg lines, whose names are those of the particles.
 #[derive(Drop)]
 struct Legs<'a, 'p> {
     fields: &'a Fields<'p>,
@@ -93,6 +96,7 @@ impl LineKind for Legs<'_, '_> {
     }
 }
 
+// The flow lines.
 #[derive(Drop)]
 struct Flows;
 
@@ -115,6 +119,7 @@ impl LineKind for Flows {
     }
 }
 
+// The den lines, whose names are those of the particles.
 #[derive(Drop)]
 struct Dens<'a, 'p> {
     fields: &'a Fields<'p>,
@@ -144,6 +149,7 @@ pub(crate) fn read_particles(alloc: Global, lines: &mut Lines) -> Result<List<Pa
     read_list(alloc, &Particles, lines)
 }
 
+/// The vertices from a line on.
 pub(crate) fn read_vertices(
     alloc: Global,
     fields: &Fields,
@@ -154,6 +160,7 @@ pub(crate) fn read_vertices(
     read_list(alloc, &Vertices { fields: &*fields }, lines)
 }
 
+/// The fields of the legs from a line on.
 pub(crate) fn read_legs(
     alloc: Global,
     fields: &Fields,
@@ -164,12 +171,14 @@ pub(crate) fn read_legs(
     read_list(alloc, &Legs { fields: &*fields }, lines)
 }
 
+/// The flows from a line on.
 pub(crate) fn read_flows(alloc: Global, lines: &mut Lines) -> Result<List<Flow>, AsmFault>
     ensures { GivesAt (rows_at (codes "flow") (λ words. formed (flow_line words)) lines.old) result lines.new }
 {
     read_list(alloc, &Flows, lines)
 }
 
+/// The denominators from a line on.
 pub(crate) fn read_dens(
     alloc: Global,
     fields: &Fields,

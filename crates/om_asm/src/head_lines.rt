@@ -13,6 +13,7 @@ use crate::words::next_name;
 use om_model::Name;
 use om_ring::read_decimal_below;
 
+// Takes a word that has to stand there.
 fn take_word(words: &mut Words, word: &[u8]) -> Option<()>
     ensures { Scans (word_by (literal word.now) words.old) result words.new }
 {
@@ -23,6 +24,7 @@ fn take_word(words: &mut Words, word: &[u8]) -> Option<()>
     }
 }
 
+// Version 1 or 2.
 fn read_version_word(word: &[u8]) -> Option<u8>
     ensures { result ≡ version_word word.now }
 {
@@ -99,6 +101,7 @@ fn end_line(mut words: Words) -> Option<()>
     Some(())
 }
 
+/// The version, by the first line.
 pub(crate) fn read_version(lines: &mut Lines) -> Result<u8, AsmFault>
     ensures { GivesAt (one_line version_of lines.old) result lines.new }
 {
@@ -109,12 +112,14 @@ pub(crate) fn read_version(lines: &mut Lines) -> Result<u8, AsmFault>
     Ok(version)
 }
 
+// The line at the place breaks the grammar, or is missing.
 fn bad_line(lines: &Lines) -> AsmFault
     ensures { IsAtLine (LineFault.Bad AsmKind.Grammar) lines.now.number result }
 {
     LineFault::Bad(AsmKind::Grammar).at_line(lines.number())
 }
 
+/// The name of the model, by the second line.
 pub(crate) fn read_model_name(lines: &mut Lines) -> Result<Name, AsmFault>
     ensures { GivesAt (one_line model_name_of lines.old) result lines.new }
 {
@@ -125,6 +130,7 @@ pub(crate) fn read_model_name(lines: &mut Lines) -> Result<Name, AsmFault>
     Ok(name)
 }
 
+/// How many slots there are, by their line. Version 1 has no such line: there the answer is 0.
 pub(crate) fn read_slots(version: u8, lines: &mut Lines) -> Result<u32, AsmFault>
     ensures { GivesAt (slots_at version lines.old) result lines.new }
 {
@@ -154,7 +160,7 @@ fn read_end_line(lines: &mut Lines) -> Result<(), AsmFault>
     Ok(())
 }
 
-// The last line, behind which nothing follows.
+/// The last line, behind which nothing follows.
 pub(crate) fn read_end(lines: &mut Lines) -> Result<(), AsmFault>
     ensures { GivesNothing (end_at lines.old) result }
 {

@@ -19,9 +19,11 @@ pub(crate) trait LineKind {
     /// What a line says, whose first word stands apart.
     ghost row_of: { Self → ListOf ℕ → WordsOf → Answer Self.Row Kind };
 
+    /// Whether a line that begins with `word` is of the kind, where `count` lines of it stand before.
     fn begins(&self, count: usize, word: &[u8]) -> bool
         ensures { result ≡ starts self.now count word.now };
 
+    /// What a line says: its first word, and the others. A `Bad` has the kind of the line.
     fn read(&self, alloc: Global, word: &[u8], words: Words) -> Result<Self::Row, LineFault>
         ensures { Gives (row_of self.now word.now words.entry) result };
 }

@@ -24,6 +24,7 @@ fn greater(a: u32, b: u32) -> u32
     if a < b { b } else { a }
 }
 
+// The register that an instruction fills, counted from 1, or 0.
 fn slots_for(instr: &Instr) -> u32
     requires { FillsFew instr.now }
     ensures { result ≡ slots_for instr.now }

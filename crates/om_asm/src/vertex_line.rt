@@ -4,7 +4,7 @@ ghost use Rattle.om_model.specs.Words.{structure_of_word};
 ghost use Rattle.om_asm.specs.Lines.{Scans, word_by};
 ghost use Rattle.om_asm.specs.Spelt.{literal};
 ghost use Rattle.om_ring.specs.Spelt.{decimal_below};
-ghost use Rattle.om_asm.specs.Slots.{slot_of, fourth_slot, factors_of};
+ghost use Rattle.om_asm.specs.VertexSlots.{slot_of, fourth_slot, factors_of};
 ghost use Rattle.om_asm.specs.Vertices.{known_fields, vertex_row};
 ghost use Rattle.om_asm.specs.Lists.{list_from};
 ghost use Rattle.om_asm.specs.Reading.{product_of};
@@ -63,7 +63,7 @@ fn take_colon(words: &mut Words) -> Option<()>
 }
 
 // A colon, or a fourth slot and a colon.
-#[tactic(auto, unfolding(crate::specs::Slots::fourth_slot))]
+#[tactic(auto, unfolding(crate::specs::VertexSlots::fourth_slot))]
 fn next_fourth(fields: &Fields, words: &mut Words) -> Option<Option<Slot>>
     ensures { Scans (fourth_slot fields.now words.old) result words.new }
 {
@@ -77,7 +77,7 @@ fn next_fourth(fields: &Fields, words: &mut Words) -> Option<Option<Slot>>
 }
 
 // One to three products.
-#[tactic(auto, unfolding(crate::specs::Slots::factors_of))]
+#[tactic(auto, unfolding(crate::specs::VertexSlots::factors_of))]
 fn read_factors(alloc: Global, words: Words) -> Result<List<Product>, LineFault>
     ensures { Gives (formed (factors_of words.entry)) result }
 {
