@@ -17,24 +17,12 @@ or_nothing : (o : Option ℕ) → o ≡ or_else o None
 or_nothing None = refl
 or_nothing (Some f) = refl
 
-or_there : (o later : Option ℕ) → is_some o ≡ true → o ≡ or_else o later
-or_there None later h = absurd cc
-or_there (Some f) later h = refl
-
 pub not_there : (o : Option ℕ) (there : Bool) → there ≡ is_some o → there ≡ false → o ≡ None
 not_there None there e f = refl
 not_there (Some x) there e f = cc
 
 abbrev Names : Type 0
 Names = BTreeMap (Bor (List ℕ)) ℕ
-
--- a name that is there keeps its field
-pub name_kept : (m : Names) (name q : List ℕ) (field : ℕ) → is_some (named_in m name) ≡ true → named_in m q ≡ or_else (named_in m q) (where_named q name field)
-name_kept m name q field h = by (bytes_eq q name) refl
-  where
-    by : (b : Bool) → bytes_eq q name ≡ b → named_in m q ≡ or_else (named_in m q) (cond b (Some field) None)
-    by true e = or_there (named_in m q) (Some field) (ap (λ n. is_some (named_in m n)) (same_bytes q name e) ∙ h)
-    by false e = or_nothing (named_in m q)
 
 apart : (a b : List ℕ) → bytes_eq a b ≡ false → bytes_eq b a ≡ false
 apart a b e = by (bytes_eq b a) refl

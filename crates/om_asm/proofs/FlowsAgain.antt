@@ -141,9 +141,6 @@ items_are s (e ∷ es) n = by (eqb e 0) (items_are (s + 1) es (omega (arith, n))
     by true r = r
     by false r = some s e (lines_at (s + 1) es) (omega (arith, n))
 
-flow_same : (w : Flow) → flow_with w.ends ≡ w
-flow_same w = refl
-
 -- what is read of the items
 by_items : (w : Flow) (items : Words) → Items items → AllByRecursion (Without 44) items → ends_from no_ends items ≡ Some w.ends → items_text items ≡ flow_bytes w → flow_of (items_text items) ≡ Some w
 unfolding flow_of ends_from

@@ -141,9 +141,6 @@ no_line n [] =
     (ap (λ k. place k []) (let e : n ≡ n + 0 = omega arith in e))
 no_line n (l ∷ fs) = stops 0 n (l ∷ fs) (omega arith) (omega arith) refl (λ ls. refl)
 
-no_slots : Words
-no_slots = codes "slots" ∷ decimal 0 ∷ []
-
 pub slots_outcome : (version : ℕ) → Outcomes (slots_at version) Ends Ends
 slots_outcome version = by (eqb version 1)
   where

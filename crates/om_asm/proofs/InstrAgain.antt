@@ -65,9 +65,6 @@ pub record IsReadable (version part : ℕ) (i : Instr) : Type 0 where
   pub range : InstrInRange i
   pub of_part : part_of i ≡ part
 
-zero_one : (n : ℕ) → 0 ≡ suc n → ⊥
-zero_one n e = omega arith
-
 loads_again : (version count : ℕ) (i : Instr) → IsReadable version 0 i → RowAgain (λ _ w. is_load w) (load_row version) (instr_words version) count i
 loads_again version count (Load slot leg) h = record { w = codes "load"; ws = load_rest version slot leg; line = refl; start = refl; says = ap formed (load_again version slot leg (h.plain.0, h.range) h.plain.1) }
 loads_again version count (Fuse slot minus vertex choice branches) h = absurd (let p = h.of_part in omega arith)

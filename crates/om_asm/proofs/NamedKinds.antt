@@ -82,10 +82,6 @@ abbrev first_word : Words → List ℕ
 first_word [] = []
 first_word (w ∷ ws) = w
 
-abbrev second_word : Words → List ℕ
-second_word [] = []
-second_word (w ∷ ws) = first_word ws
-
 -- the first word of a line that names fields
 abbrev pub NamesKey : List ℕ → Type 0
 NamesKey w = (w ≡ codes "vertex") ⊎ ((w ≡ codes "leg") ⊎ (w ≡ codes "den"))

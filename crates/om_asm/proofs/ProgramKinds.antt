@@ -54,9 +54,6 @@ never_group starts row_of group two three five within never = record {
 same_start : (w key : List ℕ) → bytes_eq w key ≡ false → w ≡ key → ⊥
 same_start w key t e = let g : true ≡ false = sym (bytes_same w key e) ∙ t in cc
 
-differs : (w key other : List ℕ) (group : ℕ) → w ≡ other → group_of_word w ≡ group_of_word key → group_of_word key ≡ group → (group_of_word other ≡ group → ⊥) → ⊥
-differs w key other group e g k n = n (ap group_of_word (sym e) ∙ g ∙ k)
-
 abbrev by_key : List ℕ → ℕ → List ℕ → Bool
 by_key key _ w = bytes_eq w key
 

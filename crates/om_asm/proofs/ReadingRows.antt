@@ -90,9 +90,3 @@ module _ {A : Type 0} (starts : ℕ → List ℕ → Bool) (row_of : List ℕ �
   rows_stop old rows number count w ws lines said e n s h =
       let split = split_lines lines w ws e in
       sym h ∙ ap (λ ls. behind rows (rows_from starts row_of (length rows) number ls)) split ∙ end_other rows number count w ws (drop 1 lines) n s ∙ ap (λ ls. Ok (rows, place number ls)) (sym split)
-
--- a line was passed
-pub fewer_lines : (number : ℕ) (w : List ℕ) (ws : Words) (lines : List Words) (now : At) → w ∷ ws ≡ first_line lines → Advances (place number lines) now → length now.lines < length lines
-fewer_lines number w ws lines now e a =
-    let split = split_lines lines w ws e in
-    omega (arith, ap (λ (p : At). length p.lines) (a w ws (drop 1 lines) split), ap length split)

@@ -69,14 +69,6 @@ no_words (b ∷ bs) w ws lines e = cc
 pub stays : (number : ℕ) (rest : List ℕ) → AreLines number None rest → (a : At) → Advances (record { number = number; lines = lines_of rest }) a
 stays number rest h a w ws lines e = absurd (no_words rest w ws lines (sym h.1 ∙ e))
 
--- the line behind
-pub goes_on : (number : ℕ) (line rest : List ℕ) → Advances (record { number = number; lines = words_of line ∷ lines_of rest }) (record { number = number + 1; lines = lines_of rest })
-goes_on number line rest w ws lines e = ap (λ (ls : List Words). let a : At = record { number = number + 1; lines = ls } in a) cc
-
--- a line has a word
-pub words_some : (line : List ℕ) → 0 < length (words_of line)
-words_some line = omega (arith, length-slice_split (λ b. eqb b 32) line)
-
 -- a list cut at the first byte that passes
 pub cut_at : (p : ℕ → Bool) (xs front back : List ℕ) (i : ℕ) → position p xs ≡ Some i → front ≡ take i xs → back ≡ drop i xs → slice_split p xs ≡ front ∷ slice_split p (take (length back - 1) (drop 1 back))
 cut_at p xs front back i h f b =

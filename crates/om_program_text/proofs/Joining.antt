@@ -16,16 +16,6 @@ pub join_spaced : (x : List ℕ) (xs : List (List ℕ)) → join_with_byte 32 (x
 join_spaced x [] = sym (append-nil x)
 join_spaced x (y ∷ ys) = ap (λ t. x ++ 32 ∷ t) (join_spaced y ys)
 
--- one word more behind a space
-pub spaced_more : (before line : List ℕ) (nodes : List ℕ) (i d node : ℕ) → i < length nodes → node ≡ get_or nodes i d → line ≡ before ++ spaced (map place_word (take i nodes)) → (line ++ 32 ∷ []) ++ place_word node ≡ before ++ spaced (map place_word (take (i + 1) nodes))
-spaced_more before line nodes i d node lt at e =
-    let words = map place_word (take i nodes) in
-    let more : map place_word (take (i + 1) nodes) ≡ words ++ place_word node ∷ [] = map_more place_word nodes i d lt ∙ ap (λ n. words ++ place_word n ∷ []) (sym at) in
-    append_assoc line (32 ∷ []) (place_word node)
-    ∙ ap (λ t. t ++ 32 ∷ place_word node) e
-    ∙ flat_map_more (λ w. 32 ∷ w) before words (place_word node)
-    ∙ ap (λ ws. before ++ spaced ws) (sym more)
-
 range_more : (a n : ℕ) → range_with_len a (suc n) ≡ range_with_len a n ++ (a + n) ∷ []
 range_more a zero = ap (λ k. k ∷ []) (sym (add-zero a))
 range_more a (suc n) = let e : a + 1 + n ≡ a + suc n = omega arith in ap (λ ks. a ∷ ks) (range_more (a + 1) n ∙ ap (λ k. range_with_len (a + 1) n ++ k ∷ []) e)
@@ -102,9 +92,6 @@ leg_next chosen leg before line now count one h has some o e short i =
       few = omega (arith, i.few);
       short = omega (arith, i.short);
     }
-
-pub legs_none : (chosen : ℕ → Bool) (line : List ℕ) → LegsIn chosen 1 line line 0
-legs_none chosen line = record { text = sym (append-nil line); counted = refl; few = omega arith; short = omega arith }
 
 -- four words and more, with a space between each two
 pub joint_text : (line p s v c : List ℕ) (bs : List (List ℕ)) → ((((((((line ++ p) ++ 32 ∷ []) ++ s) ++ 32 ∷ []) ++ v) ++ 32 ∷ []) ++ c) ++ spaced bs) ++ 10 ∷ [] ≡ line ++ (join_with_byte 32 (p ∷ s ∷ v ∷ c ∷ bs) ++ 10 ∷ [])

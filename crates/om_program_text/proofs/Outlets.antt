@@ -13,10 +13,6 @@ after_both : (told : Option (List ℕ)) (x y : List ℕ) → after_told (after_t
 after_both None x y = refl
 after_both (Some bytes) x y = ap Some (append_assoc bytes x y)
 
--- nothing went in
-pub takes_nothing : (a : Outlet) → a.written ≡ after_told a.written [] → Takes a a []
-takes_nothing a told = record { later = omega arith; sent = []; parts = append-nil a.held; appended = told }
-
 pub told_nothing : (told : Option (List ℕ)) → told ≡ after_told told []
 told_nothing None = refl
 told_nothing (Some bytes) = ap Some (sym (append-nil bytes))
@@ -72,9 +68,6 @@ module _ {A : Type 0} (text : A → List ℕ) (rows : List A) where
       let whole : flat_map text rows ≡ (flat_map text (take i rows) ++ text x) ++ rest =
       ap (flat_map text) split ∙ flat_map-append text (take i rows) (x ∷ drop (i + 1) rows) ∙ ap (λ t. flat_map text (take i rows) ++ t) (flat_map-cons text x (drop (i + 1) rows)) ∙ sym (append_assoc (flat_map text (take i rows)) (text x) rest) in
       rw whole (breaks_more a c (flat_map text (take i rows) ++ text x) rest (breaks_next a b c (flat_map text (take i rows)) (text x) p q))
-
-  pub rows_done : (a b : Outlet) (i : ℕ) → length rows ≤ i → Takes a b (flat_map text (take i rows)) → Takes a b (flat_map text rows)
-  rows_done a b i le p = rw (← take_all i rows le) p
 
 -- texts that went in, one after the other
 pub data Steps : Outlet → List (List ℕ) → Outlet → Type 0 where
