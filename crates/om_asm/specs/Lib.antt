@@ -1,0 +1,17 @@
+pub mod BranchEquality
+pub mod BranchLists
+pub mod Fields
+pub mod FirstBad
+pub mod Flows
+pub mod InRange
+pub mod Instrs
+pub mod Laws
+pub mod Lines
+pub mod Heads
+pub mod Lists
+pub mod Program
+pub mod Reading
+pub mod Rows
+pub mod Spelt
+pub mod VertexSlots
+pub mod Vertices

@@ -1,0 +1,7 @@
+pub mod LineReads
+pub mod Held
+pub mod FrontSteps
+pub mod EventSteps
+pub mod EventFronts
+pub mod LinePieces
+pub mod KindsOfCode

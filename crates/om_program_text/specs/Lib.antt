@@ -1,0 +1,4 @@
+pub mod Parts
+pub mod ProgramText
+pub mod Words
+pub mod Writing
