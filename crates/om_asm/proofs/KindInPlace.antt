@@ -1,24 +1,15 @@
 -- A bad line has the kind Name exactly where it names fields in its place and in the right form.
-use Rattle.std.proofs.Common.{◌≡◌, ℕ, ◌+◌, ◌-◌, ◌^◌, ◌<◌, ◌≤◌, ◌⊎◌, eqb, ltb, ◌&&◌, ◌||◌, Bool, true, false, cond, List, [], ◌∷◌, ◌++◌, length, drop, get_or, codes, Option, Some, None, Result, Ok, Err, refl, sym, ap, subst, ◌∙◌, arith, append_assoc, inl, inr}
+use Rattle.std.proofs.Common.{◌≡◌, ℕ, ◌+◌, ◌≤◌, Bool, true, false, cond, List, [], ◌∷◌, ◌++◌, length, Option, Some, None, Result, Ok, Err, refl, sym, ap, subst, ◌∙◌, arith, append_assoc, inl, inr}
 use Rattle.std.specs.Prelude.{◌↔◌}
-use Rattle.std.specs.Str.{bytes_eq}
 use Rattle.std.proofs.lemmas.List.{length-append}
-use Rattle.om_colour.specs.declared.Flow.{Flow}
-use Rattle.om_model.specs.declared.model.Particle.{Particle}
-use Rattle.om_model.specs.declared.model.Vertex.{Vertex}
-use Rattle.om_code.specs.declared.code.Den.{Den}
-use Rattle.om_code.specs.declared.code.Instr.{Instr}
-use Rattle.om_code.specs.declared.code.Code.{Code}
 use Rattle.om_asm.specs.declared.fault.AsmKind.{AsmKind}
 use Rattle.om_asm.specs.declared.fault.AsmKind.TheVariants.{Grammar, Name}
-use Rattle.om_asm.specs.declared.reader.Process.{Process}
 use Rattle.om_program_text.specs.ProgramText.{Words}
 use Rattle.om_asm.specs.Lines.{At, first_line}
-use Rattle.om_asm.specs.Rows.{BadLine, bad, place, rows_from, at_line, behind, formed}
+use Rattle.om_asm.specs.Rows.{BadLine, bad, place, rows_from, at_line}
 use Rattle.om_ring.specs.ResultSteps.{◌>>=◌}
 use Rattle.om_asm.specs.Program.{one_line, line_or_bad}
-use Rattle.om_asm.specs.FirstBad.{line_at, NamesFields, NamesInPlace, group_of, group_of_word}
-use Rattle.om_asm.proofs.SpeltLemmas.{same_bytes}
+use Rattle.om_asm.specs.FirstBad.{NamesFields, NamesInPlace, group_of, group_of_word}
 use Rattle.om_asm.proofs.RowLaws.{with_row, no_row}
 use Rattle.om_asm.proofs.NamedKinds.{KindIs, NamesKey, form_key, no_words}
 

@@ -1,5 +1,5 @@
 -- The lines of a model and a process: what is read is what stands there.
-use Rattle.std.proofs.Common.{◌≡◌, ℕ, ◌≤◌, Bool, true, false, cond, List, [], ◌∷◌, codes, Option, Some, None, Result, Ok, Err, refl, sym, ap, ap₂, subst, ◌∙◌, inl, inr}
+use Rattle.std.proofs.Common.{◌≡◌, ℕ, Bool, true, false, cond, List, [], ◌∷◌, codes, Option, Some, None, Result, Ok, Err, refl, sym, ap, ap₂, subst, ◌∙◌, inl, inr}
 use Rattle.om_ring.specs.declared.numeral.Numeral.{Numeral}
 use Rattle.om_lorentz.specs.declared.structures.Spin.{Spin}
 use Rattle.om_colour.specs.declared.Colour.{Colour}
@@ -8,7 +8,7 @@ use Rattle.om_model.specs.Words.{spin_of_word}
 use Rattle.om_model.specs.FieldNames.{field_named}
 use Rattle.om_model.specs.declared.model.Particle.{Particle}
 use Rattle.om_code.specs.declared.code.Den.{Den}
-use Rattle.om_code.specs.Plain.{IsNamed, IsProduct, IsPlainDen, IsPlainParticle}
+use Rattle.om_code.specs.Plain.{IsNamed, IsPlainDen, IsPlainParticle}
 use Rattle.om_model.specs.FieldNames.{field_name}
 use Rattle.om_asm.specs.declared.fault.AsmKind.{AsmKind}
 use Rattle.om_asm.specs.declared.fault.AsmKind.TheVariants.{Grammar}

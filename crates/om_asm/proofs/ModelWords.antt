@@ -13,16 +13,13 @@ use Rattle.om_ring.specs.Numerals.{numeral_text}
 use Rattle.om_ring.specs.NumeralOf.{numeral_of}
 use Rattle.om_legs.specs.Legs.{IsLegSet, legs_of, holds, union, set_of_one}
 use Rattle.om_legs.proofs.Operations.{IsLegSet-union}
-use Rattle.om_lorentz.specs.declared.structures.Spin.TheVariants.{Scalar, Dirac, Vector}
-use Rattle.om_lorentz.specs.declared.structures.Structure.TheVariants.{Sss, Ssss, Vss, Vvs, Vvss, Ffs, Ffv, Vvv, Vvvv, Gluon4}
 use Rattle.om_colour.specs.declared.Flow.{Flow}
 use Rattle.om_colour.specs.Texts.{flow_bytes}
-use Rattle.om_colour.specs.declared.Colour.TheVariants.{One, Three, AntiThree, Eight}
 use Rattle.om_model.specs.Name.{is_name}
 use Rattle.om_model.specs.Words.{structure_of_word, spin_of_word}
 use Rattle.om_model.specs.FieldNames.{field_named, field_from}
 use Rattle.om_model.specs.declared.model.Particle.{Particle}
-use Rattle.om_code.specs.Plain.{IsNamed, IsProduct, IsPlainFlow}
+use Rattle.om_code.specs.Plain.{IsNamed, IsPlainFlow}
 use Rattle.om_model.specs.FieldNames.{name_in, field_name}
 use Rattle.om_program_text.specs.ProgramText.{Words}
 use Rattle.om_program_text.specs.Words.{product_word, set_word}

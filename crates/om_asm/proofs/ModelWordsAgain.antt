@@ -6,11 +6,8 @@ use Rattle.om_ring.specs.declared.numeral.Numeral.{Numeral}
 use Rattle.om_ring.specs.Numerals.{numeral_text, sign_text, shown_den, mark_text}
 use Rattle.om_ring.proofs.NumeralTexts.{numeral_of-shown}
 use Rattle.om_lorentz.specs.declared.structures.Spin.{Spin}
-use Rattle.om_lorentz.specs.declared.structures.Spin.TheVariants.{Scalar, Dirac, Vector}
 use Rattle.om_lorentz.specs.declared.structures.Structure.{Structure}
-use Rattle.om_lorentz.specs.declared.structures.Structure.TheVariants.{Sss, Ssss, Vss, Vvs, Vvss, Ffs, Ffv, Vvv, Vvvv, Gluon4}
 use Rattle.om_colour.specs.declared.Colour.{Colour}
-use Rattle.om_colour.specs.declared.Colour.TheVariants.{One, Three, AntiThree, Eight}
 use Rattle.om_model.specs.Name.{is_name}
 use Rattle.om_model.specs.Words.{structure_of_word, spin_of_word}
 use Rattle.om_model.specs.FieldNames.{field_named}

@@ -1,19 +1,15 @@
 -- The kind of a bad line is Name exactly where the line has the form of one that names fields.
-use Rattle.std.proofs.Common.{◌≡◌, ℕ, ◌<◌, ◌≤◌, ◌⊎◌, Bool, true, false, cond, List, [], ◌∷◌, ◌++◌, length, map, codes, decimal, Option, Some, None, Result, Ok, Err, refl, sym, ap, subst, ◌∙◌, arith, inl, inr}
+use Rattle.std.proofs.Common.{◌≡◌, ℕ, ◌≤◌, ◌⊎◌, Bool, true, false, cond, List, [], ◌∷◌, ◌++◌, length, map, codes, decimal, Option, Some, None, Result, Ok, Err, refl, sym, ap, subst, ◌∙◌, arith, inl, inr}
 use Rattle.std.specs.Prelude.{◌↔◌}
 use Rattle.std.specs.Str.{bytes_eq}
 use Rattle.std.specs.List.{AllByRecursion}
 use Rattle.om_ring.specs.declared.numeral.Numeral.{Numeral}
-use Rattle.om_lorentz.specs.declared.structures.Spin.{Spin}
 use Rattle.om_lorentz.specs.declared.structures.Structure.{Structure}
-use Rattle.om_colour.specs.declared.Colour.{Colour}
 use Rattle.om_legs.specs.Legs.{IsLegSet}
 use Rattle.om_model.specs.Name.{is_name}
 use Rattle.om_model.specs.Words.{spin_of_word, structure_of_word}
 use Rattle.om_model.specs.FieldNames.{field_named}
 use Rattle.om_model.specs.declared.model.Particle.{Particle}
-use Rattle.om_model.specs.declared.model.Vertex.{Vertex}
-use Rattle.om_code.specs.declared.code.Den.{Den}
 use Rattle.om_asm.specs.declared.fault.AsmKind.{AsmKind}
 use Rattle.om_asm.specs.declared.fault.AsmKind.TheVariants.{Grammar, Name}
 use Rattle.om_program_text.specs.ProgramText.{Words}
@@ -27,15 +23,15 @@ use Rattle.om_asm.specs.Reading.{name_of, product_of, set_of, known, named, leg_
 use Rattle.om_model.specs.Words.{colour_of_word}
 use Rattle.om_asm.specs.VertexSlots.{slot_of, fourth_slot, factors_of}
 use Rattle.om_asm.specs.Vertices.{vertex_row}
-use Rattle.om_asm.specs.FirstBad.{IsName, IsReadableProduct, IsLegForm, IsDenForm, IsVertexForm, NamesFields}
+use Rattle.om_asm.specs.FirstBad.{IsName, IsLegForm, IsDenForm, IsVertexForm, NamesFields}
 use Rattle.om_asm.proofs.WordLaws.{number_law}
 use Rattle.om_asm.proofs.ModelWords.{structure_spells, set_spells}
 use Rattle.om_asm.proofs.SetsAgain.{set_again}
 use Rattle.om_asm.proofs.LinesAgain.{say}
-use Rattle.om_asm.proofs.ModelLaws.{by_word, slot_found, SlotWord, a_particle, from_colour, from_norm, from_width, from_mass, from_spin, from_anti, a_den}
+use Rattle.om_asm.proofs.ModelLaws.{by_word, slot_found, a_particle, from_colour, from_norm, from_width, from_mass, from_spin, from_anti, a_den}
 use Rattle.om_asm.proofs.SlotLaws.{FourthWords, fourth_found, factors_found, AreFactors}
 use Rattle.om_asm.proofs.VertexLaws.{from_fields, from_fourth, from_third, from_second, from_first}
-use Rattle.om_asm.proofs.VertexAgain.{vertex_said, said_names, said_kind}
+use Rattle.om_asm.proofs.VertexAgain.{vertex_said, said_kind}
 
 -- ---- rows that name no field
 

@@ -2,7 +2,7 @@
 --
 -- A reader that finds some lines in front, and others behind them, either fails in front, or stops in front, or goes on
 -- behind; which of these it does depends on the lines in front alone. Where it goes on, some more lines let it end.
-use Rattle.std.proofs.Common.{◌≡◌, ℕ, ◌+◌, ◌<◌, ◌≤◌, List, [], ◌∷◌, ◌++◌, length, Result, Ok, Err, refl, sym, ap, subst, ◌∙◌, arith, append_assoc, append-nil}
+use Rattle.std.proofs.Common.{◌≡◌, ℕ, ◌+◌, ◌<◌, ◌≤◌, List, [], ◌++◌, length, Result, Ok, Err, refl, sym, ap, subst, ◌∙◌, arith, append_assoc}
 use Rattle.std.proofs.lemmas.List.{length-append}
 use Rattle.om_program_text.specs.ProgramText.{Words}
 use Rattle.om_asm.specs.Lines.{At}

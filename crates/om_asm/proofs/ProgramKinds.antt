@@ -1,16 +1,12 @@
 -- The kind of the first bad line of a program.
-use Rattle.std.proofs.Common.{◌≡◌, ℕ, suc, ◌+◌, ◌-◌, ◌^◌, ◌<◌, ◌≤◌, ◌⊎◌, eqb, ltb, ◌&&◌, ◌||◌, Bool, true, false, cond, List, [], ◌∷◌, ◌++◌, length, get_or, codes, Option, Some, None, Result, Ok, Err, refl, sym, ap, subst, ◌∙◌, arith, inl, inr}
+use Rattle.std.proofs.Common.{◌≡◌, ℕ, suc, ◌+◌, ◌-◌, ◌^◌, ◌≤◌, eqb, ltb, ◌&&◌, ◌||◌, Bool, true, false, cond, List, [], ◌∷◌, ◌++◌, length, codes, Option, Some, None, Result, Ok, Err, refl, sym, ap, subst, ◌∙◌, arith, inl, inr}
 use Rattle.std.specs.Prelude.{◌↔◌}
 use Rattle.std.specs.Str.{bytes_eq}
-use Rattle.om_colour.specs.declared.Flow.{Flow}
 use Rattle.om_model.specs.declared.model.Particle.{Particle}
-use Rattle.om_model.specs.declared.model.Vertex.{Vertex}
-use Rattle.om_code.specs.declared.code.Den.{Den}
 use Rattle.om_code.specs.declared.code.Instr.{Instr}
 use Rattle.om_code.specs.declared.code.Code.{Code}
 use Rattle.om_asm.specs.declared.fault.AsmKind.{AsmKind}
 use Rattle.om_asm.specs.declared.fault.AsmKind.TheVariants.{Grammar, Name}
-use Rattle.om_asm.specs.declared.reader.Process.{Process}
 use Rattle.om_program_text.specs.ProgramText.{Words}
 use Rattle.om_asm.specs.Lines.{At, first_line}
 use Rattle.om_ring.specs.Spelt.{decimal_below}
@@ -22,7 +18,7 @@ use Rattle.om_asm.specs.Instrs.{load_of, fuse_of, prop_of, key_of}
 use Rattle.om_asm.specs.Rows.{BadLine, bad, place, rows_from, behind, formed, is_load, is_fuse, is_step, is_key, load_row, step_row, key_row, instrs_at}
 use Rattle.om_ring.specs.ResultSteps.{◌>>=◌}
 use Rattle.om_asm.specs.Program.{one_line, line_or_bad, rows_at, particles_at, slots_at, process_at, program_at}
-use Rattle.om_asm.specs.FirstBad.{line_at, NamesFields, NamesInPlace, group_of, group_of_word}
+use Rattle.om_asm.specs.FirstBad.{line_at, NamesInPlace, group_of, group_of_word}
 use Rattle.om_asm.proofs.SpeltLemmas.{same_bytes, bytes_same}
 use Rattle.om_asm.proofs.OneLine.{keyed_none, end_none}
 use Rattle.om_asm.proofs.HeadLaws.{name_found, slots_line_found, end_found}
@@ -30,7 +26,7 @@ use Rattle.om_asm.proofs.ProgramLaws.{a_process, a_code}
 use Rattle.om_asm.proofs.NamedKinds.{KindIs, NamesKey, NeverName, formed_never, particle_never, no_form, form_key, leg_kind, den_kind, vertex_kind}
 use Rattle.om_asm.proofs.KindInPlace.{Stands, Judged, Judges, IsGroup, then_judges, made_judges, rows_judge, line_judges, end_judges, skipped, form_group}
 use Rattle.om_asm.proofs.GroupOutcomes.{from_steps}
-use Rattle.om_asm.proofs.ProgramOutcomes.{up_to_end, with_end, from_instrs, from_slots, from_process, from_vertices, from_particles, from_name, from_dens, from_flows, ending, finish, program_is}
+use Rattle.om_asm.proofs.ProgramOutcomes.{up_to_end, with_end, from_instrs, from_slots, from_process, from_vertices, from_particles, from_name, from_dens, from_flows, finish, program_is}
 
 -- ---- the groups
 

@@ -1,13 +1,10 @@
 -- How the reader of a whole program fares.
-use Rattle.std.proofs.Common.{◌≡◌, ℕ, eqb, ltb, ◌&&◌, Bool, true, false, cond, List, [], ◌∷◌, length, codes, Option, Some, Result, Ok, Err, refl, sym, ap, ◌∙◌, arith, inl, inr}
+use Rattle.std.proofs.Common.{◌≡◌, ℕ, eqb, ltb, ◌&&◌, Bool, true, false, cond, List, length, codes, Result, Ok, Err, refl, inl, inr}
 use Rattle.std.specs.Str.{bytes_eq}
 use Rattle.om_colour.specs.declared.Flow.{Flow}
 use Rattle.om_model.specs.declared.model.Particle.{Particle}
 use Rattle.om_model.specs.declared.model.Vertex.{Vertex}
-use Rattle.om_code.specs.declared.code.Den.{Den}
-use Rattle.om_code.specs.declared.code.Instr.{Instr}
 use Rattle.om_code.specs.declared.code.Code.{Code}
-use Rattle.om_asm.specs.declared.fault.AsmKind.{AsmKind}
 use Rattle.om_asm.specs.declared.fault.AsmKind.TheVariants.{Grammar}
 use Rattle.om_asm.specs.declared.reader.Process.{Process}
 use Rattle.om_program_text.specs.ProgramText.{Words, version_words, model_words, end_words}
@@ -16,7 +13,7 @@ use Rattle.om_asm.specs.Heads.{version_word, version_of, model_name_of, end_of}
 use Rattle.om_asm.specs.Reading.{name_of, particle_row, leg_row, den_row}
 use Rattle.om_asm.specs.Vertices.{vertex_row}
 use Rattle.om_asm.specs.Flows.{flow_line}
-use Rattle.om_asm.specs.Rows.{BadLine, bad, place, rows_from, formed, instrs_at}
+use Rattle.om_asm.specs.Rows.{BadLine, bad, formed, instrs_at}
 use Rattle.om_ring.specs.ResultSteps.{◌>>=◌}
 use Rattle.om_asm.specs.Program.{one_line, rows_at, particles_at, slots_at, end_at, process_at, program_at}
 use Rattle.om_asm.proofs.OneLine.{keyed_none, end_none}

@@ -7,8 +7,6 @@ use Rattle.om_ring.specs.declared.numeral.Numeral.{Numeral}
 use Rattle.om_model.specs.Name.{is_name}
 use Rattle.om_model.specs.FieldNames.{field_named}
 use Rattle.om_model.specs.declared.model.Particle.{Particle}
-use Rattle.om_code.specs.Plain.{IsNamed}
-use Rattle.om_model.specs.FieldNames.{field_name}
 use Rattle.om_program_text.specs.ProgramText.{Words}
 use Rattle.om_program_text.specs.Words.{product_word}
 use Rattle.om_ring.specs.OptionSteps.{◌>>=◌}
@@ -17,8 +15,6 @@ use Rattle.om_asm.specs.VertexSlots.{slot_of, fourth_slot, factors_of}
 use Rattle.om_asm.proofs.SpeltLemmas.{same_bytes}
 use Rattle.om_asm.specs.FirstBad.{IsReadableProduct}
 use Rattle.om_asm.proofs.ModelWordsAgain.{product_again, list_again}
-use Rattle.om_asm.specs.InRange.{ParticleInRange}
-use Rattle.om_asm.proofs.LinesAgain.{means_field}
 
 no_colon : (w : List ℕ) → is_name w ≡ true → bytes_eq w (codes ":") ≡ false
 no_colon w h = by (bytes_eq w (codes ":")) refl

@@ -1,9 +1,9 @@
 -- Words and their one spelling.
-use Rattle.std.proofs.Common.{◌≡◌, ℕ, ◌+◌, ◌-◌, ◌^◌, ◌<◌, ◌≤◌, true, List, [], length, decimal, Option, Some, None, sym, ap, ◌∙◌, arith}
+use Rattle.std.proofs.Common.{◌≡◌, ℕ, ◌+◌, ◌-◌, ◌^◌, ◌<◌, ◌≤◌, true, List, length, decimal, Some, None, sym, ap, ◌∙◌, arith}
 use Rattle.std.specs.Str.{bytes_eq}
 use Rattle.std.proofs.lemmas.Fmt.{decimal_injective}
 use Rattle.std.proofs.lemmas.Slice.Eq.{bytes_eq-Decides}
-use Rattle.om_ring.specs.Spelt.{spelt, decimal_below}
+use Rattle.om_ring.specs.Spelt.{decimal_below}
 use Rattle.om_ring.proofs.SpeltLemmas.{IsOneSpelling, spelt_some, spelt_none, spelt_found, decimal_read, decimal_absent, empty_is_no_decimal}
 use Rattle.om_program_text.specs.Words.{place_word}
 use Rattle.om_asm.specs.Spelt.{place_of}

@@ -1,5 +1,5 @@
 -- What a word says, where only one spelling is right.
-use Rattle.std.specs.Prelude.{ℕ, ◌-◌, ◌^◌, ◌==◌, if◌then◌else◌, List, decimal, Option, Some, None}
+use Rattle.std.specs.Prelude.{ℕ, ◌-◌, ◌^◌, ◌==◌, if◌then◌else◌, List, Option, Some, None}
 use Rattle.std.specs.Str.{bytes_eq}
 use Rattle.om_ring.specs.Spelt.{spelt, decimal_below}
 use Rattle.om_ring.specs.OptionSteps.{◌>>=◌}
