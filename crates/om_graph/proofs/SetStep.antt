@@ -236,4 +236,3 @@ module _ (r : Reaction) (ns : List Key) (ts : List Term) (set : ℕ) (w : IsLegS
             where
               not_both : Memory ≡ TooLarge → ⊥
               not_both h = cc
-

@@ -67,7 +67,7 @@ module _ (r : Reaction) where
       → MOST_TERMS < length (walk (fusion r) (set_search r) (state_of ms us) ys).terms → MOST_TERMS < length (walk (fusion r) (set_search r) (state_of ns ts) (xs ++ (ys ++ zs))).terms
   stays_large ns ms ts us xs ys zs h g l =
       let e : walk (fusion r) (set_search r) (state_of ns ts) (xs ++ (ys ++ zs)) ≡ walk (fusion r) (set_search r) (walk (fusion r) (set_search r) (state_of ms us) ys) zs =
-          walk-append (fusion r) (set_search r) (state_of ns ts) xs (ys ++ zs) ∙ ap (λ (st : State Key). walk (fusion r) (set_search r) st (ys ++ zs)) (sym g.state) ∙ walk-append (fusion r) (set_search r) (state_of ms us) ys zs in
+      walk-append (fusion r) (set_search r) (state_of ns ts) xs (ys ++ zs) ∙ ap (λ (st : State Key). walk (fusion r) (set_search r) st (ys ++ zs)) (sym g.state) ∙ walk-append (fusion r) (set_search r) (state_of ms us) ys zs in
       let m = grows ns ts (xs ++ (ys ++ zs)) h (walk (fusion r) (set_search r) (state_of ms us) ys) zs in
       let n = ap (λ (st : State Key). length st.terms) e in
       omega (arith, l, m, n)

@@ -213,13 +213,14 @@ module _ (r : Reaction) (kinds : Kinds) (is : IsReaction r kinds) where
   too_large l =
       let ts = map (term_of r (all_nodes r).nodes) (all_nodes r).terms in
       let ys = map (key_term_of r (all_nodes r).nodes) keys_all in
-      let ws = flows_of (fusion r) (set_search r) flow_lt (closings_of r (all_nodes r).nodes) in
-      (record { nodes = (all_nodes r).nodes; terms = ts; keys = ys; flows = ws },
-      possible r kinds is (all_nodes r).nodes ts (length ys) ys ws (ap (λ (us : List Numbered). record { nodes = (all_nodes r).nodes; terms = us }) terms_back) term_signs (record { flows = refl; keys = keys_back; few = omega arith; signs = key_term_signs }),
-      (let a = length-map (all_nodes r).terms (term_of r (all_nodes r).nodes) in
-      let b = length-map keys_all (key_term_of r (all_nodes r).nodes) in
-      let c = numbered-length (closings_of r (all_nodes r).nodes) ws (closings_once r is.fields (all_nodes r).nodes) in
-      omega (arith, a, b, c, l)))
+      let ws = flows_of (fusion r) (set_search r) flow_lt (closings_of r (all_nodes r).nodes) in (
+        record { nodes = (all_nodes r).nodes; terms = ts; keys = ys; flows = ws },
+        possible r kinds is (all_nodes r).nodes ts (length ys) ys ws (ap (λ (us : List Numbered). record { nodes = (all_nodes r).nodes; terms = us }) terms_back) term_signs (record { flows = refl; keys = keys_back; few = omega arith; signs = key_term_signs }),
+        (let a = length-map (all_nodes r).terms (term_of r (all_nodes r).nodes) in
+            let b = length-map keys_all (key_term_of r (all_nodes r).nodes) in
+            let c = numbered-length (closings_of r (all_nodes r).nodes) ws (closings_once r is.fields (all_nodes r).nodes) in
+            omega (arith, a, b, c, l)),
+      )
 
 -- ---- what `build` puts together
 
@@ -265,4 +266,3 @@ module _ (r : Reaction) (kinds : Kinds) (is : IsReaction r kinds) (ns : List Key
             (subst (λ (l : List Flow). IsPossible r (record { nodes = ms; terms = us; keys = ys; flows = l })) (sym g) (possible r kinds is ms us limit ys ws walked w.signs c)),
         (let a = c.few in let b = w.few in omega (arith, a, b, e)),
       )
-

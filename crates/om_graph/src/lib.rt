@@ -22,6 +22,8 @@ mod set_fusions;
 mod signs;
 mod slots;
 mod terms;
+#[cfg(test)]
+mod tests;
 mod walk;
 
 use om_colour::{Flow, Partial};
