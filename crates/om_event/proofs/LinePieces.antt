@@ -1,8 +1,8 @@
 -- The pieces of a line make it up.
-use Rattle.std.proofs.Common.{◌≡◌, ℕ, nat_eq, true, false, List, [], ◌∷◌, ◌++◌, refl, ap, sym, ◌∙◌, inl, inr}
+use Rattle.std.proofs.Common.{◌≡◌, ℕ, nat_eq, List, [], ◌∷◌, refl, ap, sym, ◌∙◌, inl, inr}
 use Rattle.std.proofs.lemmas.Bool.{cases_Bool, eqb-true}
-use Rattle.om_event.specs.Pieces.{pieces, onto_first, in_piece, spaced}
-use Rattle.om_event.proofs.LineReads.{later, first_later}
+use Rattle.om_event.specs.Pieces.{pieces, onto_first, spaced}
+use Rattle.om_event.proofs.LineReads.{first_later}
 
 spaced-more : (ps : List (List ℕ)) (first : List ℕ) (rest : List (List ℕ)) → ps ≡ first ∷ rest → spaced ([] ∷ ps) ≡ 32 ∷ spaced ps
 spaced-more [] first rest e = cc

@@ -14,4 +14,6 @@ pub use keystone_parts::{KeystoneParts, keystones};
 pub use pruned::{Pruned, prune};
 
 #[cfg(test)]
-mod tests;
+mod keystone_tests;
+#[cfg(test)]
+mod prune_tests;
