@@ -1,8 +1,7 @@
 -- Signs stay while nodes and terms are added.
-use Rattle.std.proofs.Common.{◌≡◌, ℕ, ◌+◌, ◌<◌, List, [], ◌∷◌, ◌++◌, map, take, length, get_or, ◌⊎◌, inl, inr, refl, ap, sym, subst, ◌∙◌, Some, slice_get, append-nil, append_assoc}
+use Rattle.std.proofs.Common.{◌≡◌, ℕ, ◌<◌, List, [], ◌∷◌, ◌++◌, length, get_or, ◌⊎◌, inl, inr, ap, sym, subst, ◌∙◌, slice_get, append-nil, append_assoc}
 use Rattle.std.specs.Prelude.{All}
 use Rattle.om_ring.specs.Members.{In}
-use Rattle.om_colour.specs.declared.Flow.{Flow}
 use Rattle.om_graph.specs.declared.Key.{Key}
 use Rattle.om_graph.specs.declared.KeyTerm.{KeyTerm}
 use Rattle.om_graph.specs.declared.Term.{Term}

@@ -1,5 +1,5 @@
 -- The flow that is made of what the slots hold.
-use Rattle.std.proofs.Common.{◌≡◌, ℕ, ◌<◌, ◌≤◌, Bool, List, length, refl, ap, ap₂, sym, subst, ◌∙◌, Option}
+use Rattle.std.proofs.Common.{◌≡◌, ℕ, ◌<◌, ◌≤◌, Bool, List, length, ap, ap₂, sym, subst, ◌∙◌, Option}
 use Rattle.om_colour.specs.declared.Flow.{Flow}
 use Rattle.om_colour.specs.declared.SlotPartials.{SlotPartials}
 use Rattle.om_colour.specs.Partials.{closed, no_hole, Fits}

@@ -1,17 +1,16 @@
 -- What nodes fuse to and close to, as their vertices ask.
-use Rattle.std.proofs.Common.{◌≡◌, ℕ, ◌+◌, ◌<◌, List, [], ◌∷◌, ◌++◌, map, flat_map, Bool, true, false, cond, ◌⊎◌, ◌↔◌, inl, inr, refl, ap, ap₂, sym, subst, ◌∙◌, arith, Option, Some, None, append-nil, true≢false}
-use Rattle.std.proofs.lemmas.Option.{none-some, same_Some}
+use Rattle.std.proofs.Common.{◌≡◌, ℕ, ◌<◌, List, [], ◌∷◌, map, flat_map, Bool, true, false, cond, refl, ap, ap₂, sym, subst, ◌∙◌, Option, Some, None, append-nil}
+use Rattle.std.proofs.lemmas.Option.{none-some}
 use Rattle.om_ring.specs.Members.{In, Different}
 use Rattle.om_colour.specs.declared.Flow.{Flow}
 use Rattle.om_model.specs.Diagram.{same_numbers}
 use Rattle.om_model.specs.KeystoneForm.{HasFields}
 use Rattle.om_graph.specs.declared.Key.{Key}
-use Rattle.om_graph.specs.declared.fields.Meeting.{Meeting}
 use Rattle.om_graph.specs.Graph.{Found}
 use Rattle.om_graph.specs.Loops.{Signed, closed_at, closed_by, closed_flow, counts, fused_at, fused_by, fused_key, fused_with, left_over, meet_closed, meet_fused, meeting_at, meeting_with, meetings_of, one_or_none}
 use Rattle.om_graph.specs.SetSearch.{found_fused, found_closed}
 use Rattle.om_graph.specs.Tuples.{Meets}
-use Rattle.om_graph.specs.Vertices.{Reaction, fields_of, sets_of, union_of}
+use Rattle.om_graph.specs.Vertices.{Reaction, fields_of}
 use Rattle.om_graph.proofs.MeetingFields.{left_fills, left_is}
 use Rattle.om_graph.proofs.Tuples.{flat_map-flat_map, flat_map-same}
 use Rattle.om_graph.proofs.VertexChoices.{made_everywhere, at_vertex, MadeAt, just_made, made_once, map-flat_map}

@@ -1,12 +1,11 @@
 -- The derived orders of what was found are those of the graph.
-use Rattle.std.proofs.Common.{◌≡◌, ℕ, zero, suc, ◌+◌, ◌<◌, List, [], ◌∷◌, ◌++◌, take, length, Bool, true, false, cond, ltb, ◌⊎◌, inl, inr, refl, ap, ap₂, sym, subst, ◌∙◌, arith, true≢false, is_lt}
-use Rattle.std.proofs.lemmas.Bool.{ltb-true, ltb-false, lt-ltb}
+use Rattle.std.proofs.Common.{◌≡◌, ℕ, zero, suc, ◌<◌, List, [], ◌∷◌, ◌++◌, take, length, Bool, true, false, cond, ltb, refl, ap, ap₂, sym, subst, ◌∙◌, arith, true≢false, is_lt}
+use Rattle.std.proofs.lemmas.Bool.{ltb-true, ltb-false}
 use Rattle.std.proofs.lemmas.Bool.Decides.{nat_tests}
 use Rattle.std.proofs.lemmas.Cmp.{same_from_slice_cmp}
 use Rattle.std.specs.Ordering.{ordering_then, nat_cmp, bool_cmp}
 use Rattle.std.proofs.Common.{Ordering, Less, Equal, Greater}
 use Rattle.std.specs.Cmp.Lexicographic.{slice_cmp}
-use Rattle.om_colour.specs.declared.Partial.{Partial}
 use Rattle.om_model.specs.Order.{numbers_lt}
 use Rattle.om_model.proofs.Rising.{numbers_order}
 use Rattle.om_graph.specs.contracts.closings.ClosedOrd.TheImpl as closed
@@ -18,7 +17,7 @@ use Rattle.om_graph.specs.declared.fusions.Fused.{Fused}
 use Rattle.om_graph.specs.Graph.{found_lt}
 use Rattle.om_graph.specs.Loops.{chosen_nodes, closed_found, fused_found}
 use Rattle.om_graph.specs.Possible.{flow_lt, key_lt}
-use Rattle.om_graph.proofs.Orders.{key_order, flow_order}
+use Rattle.om_graph.proofs.Orders.{key_order}
 
 -- ---- lists of numbers
 

@@ -1,5 +1,5 @@
 -- The key that is made of what the slots hold.
-use Rattle.std.proofs.Common.{◌≡◌, ℕ, ◌<◌, ◌≤◌, Bool, List, [], ◌∷◌, ◌++◌, map, flat_map, length, refl, ap, ap₂, sym, subst, ◌∙◌, arith, Option, Some, None, slice_get}
+use Rattle.std.proofs.Common.{◌≡◌, ℕ, ◌<◌, ◌≤◌, Bool, List, length, refl, ap, ap₂, sym, subst, ◌∙◌, Option, Some, None, slice_get}
 use Rattle.om_colour.specs.declared.Partial.{Partial}
 use Rattle.om_colour.specs.declared.SlotPartials.{SlotPartials}
 use Rattle.om_colour.specs.Partials.{joined}

@@ -1,5 +1,5 @@
 -- The reaction of a process over a well-formed model.
-use Rattle.std.proofs.Common.{◌≡◌, ℕ, zero, suc, ◌+◌, ◌-◌, ◌%◌, ◌<◌, ◌≤◌, [], ◌∷◌, ◌++◌, map, length, Bool, true, false, cond, not, leb, ◌&&◌, ◌||◌, slice_get, refl, ap, ap₂, sym, subst, ◌∙◌, arith, append-nil, true≢false}
+use Rattle.std.proofs.Common.{◌≡◌, ℕ, zero, suc, ◌+◌, ◌-◌, ◌%◌, ◌<◌, ◌≤◌, [], ◌∷◌, ◌++◌, length, Bool, true, false, cond, not, leb, ◌&&◌, ◌||◌, slice_get, refl, ap, ap₂, sym, subst, ◌∙◌, arith, append-nil, true≢false}
 use Rattle.std.specs.Prelude.{◌==◌}
 use Rattle.std.proofs.lemmas.Bool.Decides.{nat_tests}
 use Rattle.om_ring.specs.Members.{In}

@@ -24,7 +24,7 @@ use Rattle.om_graph.specs.Loops.{CanCloseOver, Signed, chosen_nodes, closed_at, 
 use Rattle.om_graph.specs.Possible.{flow_lt, key_state_of, unsigned_key}
 use Rattle.om_graph.specs.Search.{State, add_all, flows_of, number_in, numbered}
 use Rattle.om_graph.specs.SetSearch.{closings_of, found_closed, found_in, keystone_splits, set_search}
-use Rattle.om_graph.specs.SetWalk.{CanCloseAll, ClosesAll, HasClosed, HasClosedSign, KeysHaveSigns}
+use Rattle.om_graph.specs.SetWalk.{CanCloseAll, ClosesAll, HasClosedSign, KeysHaveSigns}
 use Rattle.om_graph.specs.Tuples.{met_over_all}
 use Rattle.om_graph.specs.Vertices.{Reaction, closed_minus, fields_of, fusion, is_outward, keeps_edges}
 use Rattle.om_graph.proofs.Adding.{adding_is_step}
@@ -34,7 +34,7 @@ use Rattle.om_graph.proofs.Meetable.{can_close}
 use Rattle.om_graph.proofs.MeetingFields.{same_count}
 use Rattle.om_graph.proofs.Numbers.{found_order}
 use Rattle.om_graph.proofs.Orders.{flow_order}
-use Rattle.om_graph.proofs.SignedLists.{MadeBy, all_of_members, found_where, length_at_numbers, made_by, take_shorter}
+use Rattle.om_graph.proofs.SignedLists.{all_of_members, found_where, length_at_numbers, made_by, take_shorter}
 use Rattle.om_graph.proofs.Sorted.{length-rising_of, sorted_is_rising, sorted_map}
 use Rattle.om_graph.proofs.SplitLists.{same_splits}
 use Rattle.om_graph.proofs.SplitMembers.{are_closings, closings_once}

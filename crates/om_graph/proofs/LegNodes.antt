@@ -1,6 +1,5 @@
 -- The legs are the nodes of one leg, and the walk begins with them.
-use Rattle.std.proofs.Common.{◌≡◌, ℕ, zero, suc, ◌+◌, ◌-◌, ◌^◌, ◌<◌, ◌≤◌, List, [], ◌∷◌, ◌++◌, map, length, Bool, true, false, cond, eqb, ltb, ◌⊎◌, inl, inr, ⊎_elim, refl, ap, ap₂, sym, subst, ◌∙◌, arith, true≢false}
-use Rattle.std.specs.List.{Contains}
+use Rattle.std.proofs.Common.{◌≡◌, ℕ, zero, suc, ◌+◌, ◌-◌, ◌^◌, ◌<◌, ◌≤◌, List, [], ◌∷◌, ◌++◌, map, length, Bool, true, false, cond, eqb, ltb, ◌⊎◌, inl, inr, refl, ap, ap₂, sym, subst, ◌∙◌, arith, true≢false}
 use Rattle.std.proofs.Math.Pow.{pow_mono, pow-lt}
 use Rattle.std.proofs.lemmas.Bool.{eqb-true, eq-eqb, ne_eqb}
 use Rattle.std.proofs.lemmas.Bool.Decides.{nat_tests}
@@ -24,12 +23,11 @@ use Rattle.om_model.proofs.LegSets.{has_leg_set, leg_set_of_leaf}
 use Rattle.om_graph.specs.declared.Key.{Key}
 use Rattle.om_graph.specs.Caches.{counts_from, StandLast}
 use Rattle.om_graph.specs.Fusion.{IsNode, HasKey}
-use Rattle.om_graph.specs.Graph.{Numbered, IsTerm, AreTerms}
 use Rattle.om_graph.specs.Possible.{key_lt}
 use Rattle.om_graph.specs.Search.{HasDone, Ready, all_done, AreNodes, interned}
 use Rattle.om_graph.specs.SetSearch.{set_search, leg_keys, leg_state, outward_sets}
-use Rattle.om_graph.specs.TreeKeys.{IsReaction, key_of}
-use Rattle.om_graph.specs.Vertices.{Reaction, Fuses, fusion, leg_key, is_outward}
+use Rattle.om_graph.specs.TreeKeys.{IsReaction}
+use Rattle.om_graph.specs.Vertices.{Reaction, Fuses, fusion, leg_key}
 use Rattle.om_graph.proofs.KeysOfSides.{leg_subtree, side_of, outward_of}
 use Rattle.om_graph.proofs.Lists.{in_map, in_mapped, before_all}
 use Rattle.om_graph.proofs.Adding.{interned_behind}
@@ -38,7 +36,7 @@ use Rattle.om_graph.proofs.Orders.{key_order}
 use Rattle.om_graph.proofs.PartSizes.{fused_some}
 use Rattle.om_graph.proofs.SetNodes.{NodeIs, node_is, in_by_number}
 use Rattle.om_graph.proofs.SetNodes.NodeIs.{a_leg, a_join}
-use Rattle.om_graph.proofs.SetOrder.{IsBefore, IsInner, key_before, from_in-least, from_in-most, from_rises, outward_rise, outward_large, in_outward, ready}
+use Rattle.om_graph.proofs.SetOrder.{IsInner, key_before, from_in-least, from_in-most, from_rises, outward_rise, outward_large, in_outward, ready}
 use Rattle.om_graph.proofs.Steps.{in_from}
 use Rattle.om_graph.proofs.TreeSplits.{all_holds}
 

@@ -1,21 +1,19 @@
 -- The colour lines of nodes fit wherever the search brings them together.
-use Rattle.std.proofs.Common.{◌≡◌, ℕ, ◌+◌, ◌<◌, List, [], ◌∷◌, ◌++◌, map, length, true, false, ◌⊎◌, inl, inr, refl, ap, sym, subst, ◌∙◌, arith, Option, Some}
+use Rattle.std.proofs.Common.{◌≡◌, ℕ, ◌<◌, List, [], ◌∷◌, length, true, ◌⊎◌, ap, sym, subst, ◌∙◌, Some}
 use Rattle.std.proofs.lemmas.List.{length-map}
 use Rattle.std.proofs.lemmas.Option.{same_Some}
 use Rattle.om_ring.specs.Members.{In}
 use Rattle.om_legs.specs.Legs.{IsLegSet, all_legs}
 use Rattle.om_legs.specs.Splits.{IsSplit}
-use Rattle.om_legs.proofs.Operations.{IsLegSet-all_legs}
 use Rattle.om_colour.specs.Partials.{no_hole, Fits}
 use Rattle.om_model.specs.Diagram.{same_numbers}
 use Rattle.om_model.specs.FermionLines.{Kinds}
 use Rattle.om_model.proofs.Counting.{times_of_in}
 use Rattle.om_graph.specs.declared.Key.{Key}
-use Rattle.om_graph.specs.declared.fields.Meeting.{Meeting}
 use Rattle.om_graph.specs.ColoursFit.{CanJoin}
 use Rattle.om_graph.specs.Fusion.{AllNodes, IsNode}
 use Rattle.om_graph.specs.Graph.{at_numbers}
-use Rattle.om_graph.specs.Loops.{CanClose, CanCloseAt, CanCloseFrom, CanJoinAt, CanMeet, CanMeetFrom}
+use Rattle.om_graph.specs.Loops.{CanCloseAt, CanCloseFrom, CanJoinAt, CanMeet, CanMeetFrom}
 use Rattle.om_graph.specs.TreeKeys.{IsReaction}
 use Rattle.om_graph.specs.Vertices.{Reaction, fusion, sets_of, fields_of, union_of, fused_slots, closed_slots, slot_partials, hole_of, four_slots}
 use Rattle.om_graph.proofs.ColoursFit.{nodes_join, nodes_close, four_partials}

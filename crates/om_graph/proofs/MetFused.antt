@@ -1,5 +1,5 @@
 -- What nodes with known keys fuse to.
-use Rattle.std.proofs.Common.{◌≡◌, ℕ, List, map, flat_map, refl, ap, sym, ◌∙◌, Option, Some, true, false}
+use Rattle.std.proofs.Common.{◌≡◌, ℕ, List, flat_map, ap, sym, ◌∙◌, Some, true, false}
 use Rattle.om_graph.specs.declared.Key.{Key}
 use Rattle.om_graph.specs.declared.fields.Meeting.{Meeting}
 use Rattle.om_graph.specs.Graph.{at_numbers}

@@ -1,9 +1,9 @@
 -- The sets over which the walk goes: by number of legs, then by number, and their parts before them.
-use Rattle.std.proofs.Common.{◌≡◌, ℕ, zero, suc, ◌+◌, ◌-◌, ◌*◌, ◌/◌, ◌<◌, ◌≤◌, List, [], ◌∷◌, ◌++◌, map, flat_map, Bool, true, false, not, cond, eqb, ltb, ◌&&◌, ◌||◌, ◌⊎◌, inl, inr, ⊎_elim, refl, ap, ap₂, sym, subst, ◌∙◌, arith, true≢false, length}
-use Rattle.std.proofs.lemmas.Bool.{eqb-true, eq-eqb, ltb-true, ltb-false, lt-ltb}
+use Rattle.std.proofs.Common.{◌≡◌, ℕ, zero, suc, ◌+◌, ◌-◌, ◌*◌, ◌/◌, ◌<◌, ◌≤◌, List, [], ◌∷◌, Bool, true, false, not, cond, eqb, ltb, ◌&&◌, ◌||◌, ◌⊎◌, inl, inr, refl, ap, sym, subst, ◌∙◌, arith, true≢false, length}
+use Rattle.std.proofs.lemmas.Bool.{eqb-true, eq-eqb, ltb-true, lt-ltb}
 use Rattle.std.proofs.lemmas.Bool.Decides.{nat_tests}
 use Rattle.om_ring.specs.Members.{In}
-use Rattle.om_legs.specs.Legs.{IsLegSet, IsSubset, size, holds, all_legs}
+use Rattle.om_legs.specs.Legs.{size, holds, all_legs}
 use Rattle.om_legs.proofs.FirstPart.{part_filled, part_leg, IsLegSet-part}
 use Rattle.om_legs.proofs.Least.{IsSubset_from}
 use Rattle.om_legs.proofs.Members.{Rising, Rising-append, Rising-flat_map}
@@ -15,7 +15,7 @@ use Rattle.om_model.specs.Order.{numbers_lt}
 use Rattle.om_graph.specs.declared.Key.{Key}
 use Rattle.om_graph.specs.Caches.{counts_from}
 use Rattle.om_graph.specs.Possible.{key_lt}
-use Rattle.om_graph.specs.Search.{IsNext, Ready}
+use Rattle.om_graph.specs.Search.{Ready}
 use Rattle.om_graph.specs.SetSearch.{set_search, set_at, sets_of_size, outward_sets}
 use Rattle.om_graph.specs.Vertices.{Reaction, Fuses, fusion, is_outward, sets_of}
 use Rattle.om_graph.proofs.Lists.{in_either}

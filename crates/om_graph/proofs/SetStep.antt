@@ -1,5 +1,5 @@
 -- What is found over one set makes one step of the walk.
-use Rattle.std.proofs.Common.{◌≡◌, ℕ, zero, suc, ◌+◌, ◌-◌, ◌<◌, ◌≤◌, List, [], ◌∷◌, ◌++◌, map, flat_map, length, get_or, take, Bool, true, false, cond, ltb, ◌&&◌, ◌⊎◌, ◌↔◌, inl, inr, ⊎_elim, refl, ap, ap₂, sym, subst, ◌∙◌, arith, true≢false, Option, Some, None, Result, Ok, Err, IsPermutation, IsSortedBy}
+use Rattle.std.proofs.Common.{◌≡◌, ℕ, ◌+◌, ◌-◌, ◌<◌, ◌≤◌, List, [], ◌∷◌, ◌++◌, map, flat_map, length, Bool, true, false, cond, ltb, ◌⊎◌, inl, inr, refl, ap, ap₂, sym, subst, ◌∙◌, arith, true≢false, Option, Some, None, Result, Ok, Err, IsPermutation, IsSortedBy}
 use Rattle.std.specs.List.{filter}
 use Rattle.std.specs.Prelude.{All, OnOk, IfErr}
 use Rattle.std.proofs.lemmas.Bool.{lt-ltb}
@@ -11,25 +11,24 @@ use Rattle.om_legs.specs.Legs.{IsLegSet, complement}
 use Rattle.om_legs.specs.Splits.{AreSplits}
 use Rattle.om_legs.specs.Walks.{pairs, triples}
 use Rattle.om_legs.proofs.Exact.{AreSplits-pairs, AreSplits-triples}
-use Rattle.om_model.specs.Order.{IsOrder, rising_of}
+use Rattle.om_model.specs.Order.{rising_of}
 use Rattle.om_model.proofs.EdgesUncut.{both_true}
 use Rattle.om_graph.specs.declared.BuildFault.{BuildFault}
 use Rattle.om_graph.specs.declared.BuildFault.TheVariants.{Memory, TooLarge}
 use Rattle.om_graph.specs.declared.Key.{Key}
 use Rattle.om_graph.specs.declared.Term.{Term}
 use Rattle.om_graph.specs.declared.TheConstants.{MOST_TERMS}
-use Rattle.om_graph.specs.declared.fields.Meeting.{Meeting}
 use Rattle.om_graph.specs.declared.fusions.Fused.{Fused}
 use Rattle.om_graph.specs.Caches.{StandLast}
 use Rattle.om_graph.specs.Fusion.{IsNode}
 use Rattle.om_graph.specs.Graph.{Found, found_lt, at_numbers}
-use Rattle.om_graph.specs.Loops.{CanMeetOver, Signed, chosen_nodes, counts, fused_at, fused_by, fused_found, fused_key, fused_seen, fused_with, meet_fused, meetings_of, met_parts}
+use Rattle.om_graph.specs.Loops.{CanMeetOver, Signed, counts, fused_at, fused_by, fused_found, fused_key, fused_seen, fused_with, meet_fused, meetings_of, met_parts}
 use Rattle.om_graph.specs.Possible.{key_lt, state_of, unsigned}
-use Rattle.om_graph.specs.Search.{HasDone, State, add_all, nodes_over, numbered, step, walk}
+use Rattle.om_graph.specs.Search.{State, add_all, nodes_over, step, walk}
 use Rattle.om_graph.specs.SetSearch.{found_fused, found_in, set_search, splits_of, uncut_splits}
-use Rattle.om_graph.specs.SetWalk.{CanWalk, HasFoundSign, HasWalked, HaveSigns, IsOver, Walks}
+use Rattle.om_graph.specs.SetWalk.{CanWalk, HasFoundSign, HaveSigns, IsOver, Walks}
 use Rattle.om_graph.specs.Tuples.{met_over_all}
-use Rattle.om_graph.specs.Vertices.{Reaction, fields_of, fusion, fused_minus, is_outward, keeps_edges, sets_of, union_of}
+use Rattle.om_graph.specs.Vertices.{Reaction, fields_of, fusion, fused_minus, is_outward, keeps_edges}
 use Rattle.om_graph.proofs.Adding.{adding_is_step}
 use Rattle.om_graph.proofs.FoundMembers.{meets_fused}
 use Rattle.om_graph.proofs.Lists.{in_map, in_mapped}
@@ -37,7 +36,7 @@ use Rattle.om_graph.proofs.Meetable.{can_meet}
 use Rattle.om_graph.proofs.MeetingFields.{same_count}
 use Rattle.om_graph.proofs.NodeRanges.{none_stand_last}
 use Rattle.om_graph.proofs.Orders.{key_order}
-use Rattle.om_graph.proofs.SignedLists.{MadeBy, all_of_members, found_where, length_at_numbers, made_by, take_shorter}
+use Rattle.om_graph.proofs.SignedLists.{all_of_members, found_where, length_at_numbers, made_by, take_shorter}
 use Rattle.om_graph.proofs.Sorted.{sorted_is_rising, sorted_map}
 use Rattle.om_graph.proofs.Numbers.{found_order}
 use Rattle.om_graph.proofs.SplitMembers.{is_search, found_once}

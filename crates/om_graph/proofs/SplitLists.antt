@@ -1,13 +1,8 @@
 -- There is one list of all splits of a set.
-use Rattle.std.proofs.Common.{◌≡◌, ℕ, List, [], ◌∷◌, Bool, true, refl, ap, sym, ◌∙◌, arith, is_lt}
-use Rattle.std.proofs.lemmas.Bool.Decides.{nat_tests}
-use Rattle.std.proofs.lemmas.Cmp.{same_from_slice_cmp}
-use Rattle.std.specs.Cmp.Lexicographic.{slice_cmp}
-use Rattle.std.specs.Ordering.{nat_cmp}
-use Rattle.om_ring.specs.Members.{In}
+use Rattle.std.proofs.Common.{◌≡◌, ℕ, List, [], ◌∷◌, sym, ◌∙◌}
 use Rattle.om_legs.specs.Splits.{AreSplits, IsBefore}
 use Rattle.om_legs.proofs.Members.{Contains-from_In, In-from_Contains, Rising, Rising-from_AllPairs}
-use Rattle.om_model.specs.Order.{Rising as RisingBy, BeforeAll, numbers_lt}
+use Rattle.om_model.specs.Order.{Rising as RisingBy, numbers_lt}
 use Rattle.om_model.proofs.Rising.{numbers_order, rising_unique}
 use Rattle.om_graph.proofs.FoundOrder.{lists_agree}
 use Rattle.om_graph.proofs.Lists.{before_all}

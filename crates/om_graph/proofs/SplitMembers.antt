@@ -1,6 +1,6 @@
 -- The splits over which the search goes are just those that a vertex allows, each once.
-use Rattle.std.proofs.Common.{◌≡◌, ◌≢◌, ℕ, suc, ◌+◌, ◌<◌, ◌^◌, List, [], ◌∷◌, ◌++◌, map, length, Bool, true, false, cond, ltb, ◌&&◌, ◌⊎◌, ◌↔◌, inl, inr, ⊎_elim, refl, ap, ap₂, sym, subst, ◌∙◌, arith, true≢false}
-use Rattle.std.specs.List.{filter, AllPairs}
+use Rattle.std.proofs.Common.{◌≡◌, ◌≢◌, ℕ, ◌<◌, List, [], ◌∷◌, ◌++◌, length, Bool, true, false, cond, ltb, ◌&&◌, ◌⊎◌, inl, inr, ⊎_elim, refl, ap, sym, subst, ◌∙◌, arith}
+use Rattle.std.specs.List.{filter}
 use Rattle.std.proofs.lemmas.Bool.{lt-ltb, ltb-true}
 use Rattle.std.proofs.lemmas.List.{length-map}
 use Rattle.om_ring.specs.Members.{In, Different}
@@ -10,7 +10,7 @@ use Rattle.om_legs.specs.Walks.{pairs, triples, quadruples}
 use Rattle.om_legs.proofs.Exact.{AreSplits-pairs, AreSplits-triples, AreSplits-quadruples}
 use Rattle.om_legs.proofs.Members.{Contains-from_In, In-from_Contains, Rising-from_AllPairs}
 use Rattle.om_legs.proofs.Operations.{IsLegSet-all_legs}
-use Rattle.om_colour.specs.Partials.{joined, closed}
+use Rattle.om_colour.specs.Partials.{joined}
 use Rattle.om_colour.specs.declared.Flow.{Flow}
 use Rattle.om_model.specs.Diagram.{all_in}
 use Rattle.om_model.specs.KeystoneForm.{HasFields}
@@ -18,13 +18,12 @@ use Rattle.om_model.proofs.Counting.{both, times_of_in}
 use Rattle.om_model.proofs.EdgesUncut.{both_true}
 use Rattle.om_model.proofs.Membership.{in_filter}
 use Rattle.om_graph.specs.declared.Key.{Key}
-use Rattle.om_graph.specs.Graph.{Found, AreClosings, at_numbers}
+use Rattle.om_graph.specs.Graph.{AreClosings}
 use Rattle.om_graph.specs.Loops.{fused_key, closed_flow}
 use Rattle.om_graph.specs.Possible.{key_lt}
 use Rattle.om_graph.specs.Search.{IsSearch}
 use Rattle.om_graph.specs.SetSearch.{splits_of, uncut_splits, keystone_splits, closings_of, found_fused, found_closed, set_search}
 use Rattle.om_graph.specs.Splits.{IsSplitting}
-use Rattle.om_graph.specs.Tuples.{met_over_all}
 use Rattle.om_graph.specs.Vertices.{Reaction, Fuses, Closes, fusion, is_outward, keeps_edges, sets_of, fields_of, fused_slots, slot_partials, hole_of, union_of}
 use Rattle.om_graph.proofs.FoundMembers.{MakesKey, MakesFlow, meets_fused, meets_closed}
 use Rattle.om_graph.proofs.Lists.{in_left, in_right, in_either}

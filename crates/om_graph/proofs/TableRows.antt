@@ -1,6 +1,6 @@
 -- The rows of the colour table that are kept for the vertices.
-use Rattle.std.proofs.Common.{◌≡◌, ℕ, zero, suc, ◌<◌, ◌≤◌, List, [], ◌∷◌, length, refl, ap, sym, ◌∙◌, arith, Option, Some, None, slice_get, slice_index_or, get_or}
-use Rattle.std.proofs.lemmas.Option.{slice_get_read, slice_get-get_or, slice_get_within}
+use Rattle.std.proofs.Common.{◌≡◌, ℕ, zero, suc, ◌<◌, List, [], ◌∷◌, length, refl, ap, sym, ◌∙◌, arith, Option, Some, slice_get, get_or}
+use Rattle.std.proofs.lemmas.Option.{slice_get_read}
 use Rattle.om_colour.specs.Table.{Row, choice_count, choice_of}
 use Rattle.om_model.specs.declared.model.Model.{Model}
 use Rattle.om_model.specs.declared.model.Vertex.{Vertex}

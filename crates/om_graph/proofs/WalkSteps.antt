@@ -1,8 +1,7 @@
 -- Walks over sets, one after the other.
-use Rattle.std.proofs.Common.{◌≡◌, ℕ, zero, suc, ◌+◌, ◌-◌, ◌/◌, ◌<◌, ◌≤◌, List, [], ◌∷◌, ◌++◌, map, flat_map, length, Bool, true, false, cond, eqb, ◌&&◌, refl, ap, ap₂, sym, subst, ◌∙◌, arith, append-nil, append_assoc}
+use Rattle.std.proofs.Common.{◌≡◌, ℕ, zero, suc, ◌+◌, ◌-◌, ◌/◌, ◌<◌, ◌≤◌, List, [], ◌∷◌, ◌++◌, flat_map, length, Bool, true, false, cond, eqb, ◌&&◌, refl, ap, ap₂, sym, subst, ◌∙◌, arith, append-nil, append_assoc}
 use Rattle.std.proofs.lemmas.List.Concat.{flat_map-append}
 use Rattle.om_legs.specs.Legs.{all_legs, size}
-use Rattle.om_model.proofs.Counting.{both}
 use Rattle.om_graph.specs.declared.Key.{Key}
 use Rattle.om_graph.specs.declared.Term.{Term}
 use Rattle.om_graph.specs.declared.TheConstants.{MOST_TERMS}
@@ -11,7 +10,7 @@ use Rattle.om_graph.specs.Fusion.{Fusion}
 use Rattle.om_graph.specs.Possible.{state_of}
 use Rattle.om_graph.specs.Search.{Search, State, HasDone, Ready, all_done, step, walk}
 use Rattle.om_graph.specs.SetSearch.{outward_sets, set_at, set_search, sets_of_size}
-use Rattle.om_graph.specs.SetWalk.{CanWalk, HasWalked, HaveSigns}
+use Rattle.om_graph.specs.SetWalk.{CanWalk, HasWalked}
 use Rattle.om_graph.specs.Vertices.{Reaction, fusion, is_outward}
 use Rattle.om_graph.proofs.Orders.{key_order}
 use Rattle.om_graph.proofs.SplitMembers.{is_search, found_once}

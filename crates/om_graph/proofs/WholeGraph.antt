@@ -1,10 +1,9 @@
 -- The nodes and terms of the walk and what closes are the possible graph.
-use Rattle.std.proofs.Common.{◌≡◌, ℕ, zero, suc, ◌+◌, ◌-◌, ◌<◌, ◌≤◌, List, [], ◌∷◌, ◌++◌, map, length, take, Bool, true, false, ◌⊎◌, inl, inr, refl, ap, ap₂, sym, subst, ◌∙◌, arith, Option, Some, None, slice_get}
+use Rattle.std.proofs.Common.{◌≡◌, ℕ, zero, suc, ◌+◌, ◌-◌, ◌<◌, ◌≤◌, List, [], ◌∷◌, map, length, Bool, false, ◌⊎◌, inl, inr, refl, ap, ap₂, sym, subst, ◌∙◌, arith, Option, Some, None, slice_get}
 use Rattle.std.specs.Prelude.{slice_index}
 use Rattle.std.proofs.lemmas.List.{length-map}
 use Rattle.std.proofs.lemmas.Option.{same_Some}
 use Rattle.om_ring.specs.Members.{In}
-use Rattle.om_legs.specs.Branches.{AreBranches}
 use Rattle.om_legs.specs.declared.branches.Branches.{Branches}
 use Rattle.om_colour.specs.declared.Flow.{Flow}
 use Rattle.om_model.specs.FermionLines.{Kinds}
@@ -13,7 +12,6 @@ use Rattle.om_graph.specs.declared.Key.{Key}
 use Rattle.om_graph.specs.declared.KeyTerm.{KeyTerm}
 use Rattle.om_graph.specs.declared.Term.{Term}
 use Rattle.om_graph.specs.declared.TheConstants.{MOST_TERMS}
-use Rattle.om_graph.specs.Fusion.{IsNode}
 use Rattle.om_graph.specs.Graph.{Numbered, IsGraph, at_numbers}
 use Rattle.om_graph.specs.Possible.{IsPossible, flow_lt, key_lt, nodes_at, state_of, term_count, unsigned, unsigned_key}
 use Rattle.om_graph.specs.Search.{HasDone, State, flows_of, numbered, walk}

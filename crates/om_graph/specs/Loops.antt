@@ -1,5 +1,5 @@
 -- What the loops find, in the order in which they find it.
-use Rattle.std.specs.Prelude.{◌≡◌, ℕ, zero, suc, ◌+◌, ◌≤◌, ◌<◌, ◌⊎◌, List, [], ◌∷◌, ◌++◌, map, flat_map, length, take, Bool, true, false, cond, ◌&&◌, Option, Some, None, Result, MatchResult}
+use Rattle.std.specs.Prelude.{◌≡◌, ℕ, zero, suc, ◌+◌, ◌≤◌, ◌<◌, ◌⊎◌, List, [], ◌∷◌, ◌++◌, flat_map, length, take, Bool, true, false, cond, ◌&&◌, Option, Some, None, Result, MatchResult}
 use Rattle.om_legs.specs.Legs.{all_legs}
 use Rattle.om_legs.specs.Splits.{IsSplit}
 use Rattle.om_colour.specs.Partials.{joined, closed, no_hole, Fits}

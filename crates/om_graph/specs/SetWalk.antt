@@ -1,5 +1,5 @@
 -- What the walk over sets asks and leaves, and the signs of what it adds.
-use Rattle.std.specs.Prelude.{◌≡◌, ℕ, ◌+◌, ◌<◌, ◌≤◌, List, map, length, Some, slice_get, Result, MatchResult}
+use Rattle.std.specs.Prelude.{◌≡◌, ℕ, ◌<◌, ◌≤◌, List, map, length, Some, slice_get, Result, MatchResult}
 use Rattle.om_ring.specs.Members.{In}
 use Rattle.om_colour.specs.declared.Flow.{Flow}
 use Rattle.om_model.specs.FermionLines.{Kinds}

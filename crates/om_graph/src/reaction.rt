@@ -183,8 +183,7 @@ fn lies_in(set: LegSet, part: LegSet) -> bool
     set.minus(part) == LegSet::empty()
 }
 
-/// Whether a side of an edge of so many legs lies away from the keystone: it has at most half of the legs, and not leg 1
-/// where it has half.
+/// Whether a side of an edge of so many legs lies away from the keystone: at most half of the legs, and not leg 1 where it has half.
 pub(crate) fn is_outward(set: LegSet, size: u8) -> bool
     ensures { result ≡ is_outward_of size set }
 {

@@ -1,11 +1,10 @@
-use Rattle.std.proofs.Common.{◌≡◌, ℕ, ◌+◌, ◌-◌, ◌<◌, ◌≤◌, ◌++◌, [], ◌∷◌, List, Option, Some, map, flat_map, take, drop, length, true, ap, sym, subst, ◌∙◌, arith}
+use Rattle.std.proofs.Common.{◌≡◌, ℕ, ◌+◌, ◌-◌, ◌<◌, ◌++◌, [], ◌∷◌, List, map, flat_map, take, drop, length, ap, sym, subst, ◌∙◌, arith}
 use Rattle.om_colour.specs.declared.Flow.{Flow}
 use Rattle.om_graph.specs.declared.Key.{Key}
 use Rattle.om_graph.specs.Caches.{AllBelow, counts_from}
-use Rattle.om_graph.specs.Graph.{at_numbers}
 use Rattle.om_graph.specs.Loops.{Signed, Adds, CanCloseFrom, chosen_nodes, closed_seen, meet_closed}
 use Rattle.om_graph.specs.Reactions.{reaction_in}
-use Rattle.om_graph.specs.Tuples.{met, met_from}
+use Rattle.om_graph.specs.Tuples.{met_from}
 use Rattle.om_graph.proofs.Choosing.{below_more, empty_is, first_and_rest, from_first, from_none, none_more_closes, one_more_closes, rest_length}
 use Rattle.om_graph.proofs.Steps.{none_from, more_from, stops_from}
 use Rattle.om_graph.proofs.closings.+add_tuples.Goals as goal

@@ -1,4 +1,4 @@
-use Rattle.std.proofs.Common.{◌≡◌, ℕ, ◌+◌, ◌<◌, ◌≤◌, ◌++◌, ◌∷◌, [], List, map, flat_map, length, ap, sym, subst, ◌∙◌, arith}
+use Rattle.std.proofs.Common.{◌+◌, ◌<◌, ◌++◌, ◌∷◌, [], map, flat_map, length, ap, subst, ◌∙◌}
 use Rattle.om_colour.specs.declared.Flow.{Flow}
 use Rattle.om_graph.specs.Loops.{Signed, chosen_nodes, counts, closed_at, closed_seen}
 use Rattle.om_graph.specs.Reactions.{reaction_in}

@@ -1,12 +1,9 @@
-use Rattle.std.proofs.Common.{◌≡◌, ℕ, ◌+◌, ◌<◌, ◌≤◌, ◌++◌, [], ◌∷◌, List, Option, Some, None, map, flat_map, take, get_or, length, true, ap, sym, subst, ◌∙◌, arith}
+use Rattle.std.proofs.Common.{◌+◌, ◌<◌, ◌++◌, List, None, map, flat_map, take, get_or, length, true, ap, sym, subst, ◌∙◌, arith}
 use Rattle.om_ring.specs.Members.{In}
 use Rattle.om_colour.specs.declared.Flow.{Flow}
-use Rattle.om_graph.specs.declared.Key.{Key}
 use Rattle.om_graph.specs.declared.fields.Meeting.{Meeting}
-use Rattle.om_graph.specs.Graph.{at_numbers}
-use Rattle.om_graph.specs.Loops.{Signed, CanClose, chosen_nodes, closed_by, closed_seen, meet_closed, meetings_of}
+use Rattle.om_graph.specs.Loops.{Signed, chosen_nodes, closed_by, closed_seen, meetings_of}
 use Rattle.om_graph.specs.Reactions.{reaction_in}
-use Rattle.om_graph.specs.Tuples.{met, met_by}
 use Rattle.om_graph.specs.Vertices.{fields_of}
 use Rattle.om_graph.proofs.MeetingLists.{same_meetings, meeting_vertex, in_at}
 use Rattle.om_graph.proofs.MetFused.{met_closed_is}

@@ -1,4 +1,4 @@
-use Rattle.std.proofs.Common.{◌≡◌, ℕ, ◌+◌, ◌<◌, ◌∙◌, false, length, slice_index_or, ap, sym, arith}
+use Rattle.std.proofs.Common.{◌≡◌, ◌+◌, ◌∙◌, length, slice_index_or, ap, sym, arith}
 use Rattle.std.proofs.lemmas.List.Sorted.{All-permutation}
 use Rattle.om_graph.specs.declared.closings.Closed.{Closed}
 use Rattle.om_graph.specs.Loops.{chosen_nodes}

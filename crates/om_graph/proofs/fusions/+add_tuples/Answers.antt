@@ -1,10 +1,9 @@
-use Rattle.std.proofs.Common.{◌≡◌, ℕ, ◌+◌, ◌-◌, ◌<◌, ◌≤◌, ◌++◌, [], ◌∷◌, List, Option, Some, map, flat_map, take, drop, length, false, ap, sym, subst, ◌∙◌, arith}
+use Rattle.std.proofs.Common.{◌≡◌, ℕ, ◌+◌, ◌-◌, ◌<◌, ◌++◌, [], ◌∷◌, List, map, flat_map, take, drop, length, ap, sym, subst, ◌∙◌, arith}
 use Rattle.om_graph.specs.declared.Key.{Key}
 use Rattle.om_graph.specs.Caches.{AllBelow, counts_from}
-use Rattle.om_graph.specs.Graph.{at_numbers}
 use Rattle.om_graph.specs.Loops.{Signed, Adds, CanMeetFrom, chosen_nodes, fused_seen, meet_fused}
 use Rattle.om_graph.specs.Reactions.{reaction_in}
-use Rattle.om_graph.specs.Tuples.{met, met_from}
+use Rattle.om_graph.specs.Tuples.{met_from}
 use Rattle.om_graph.proofs.Choosing.{below_more, empty_is, first_and_rest, from_first, from_none, none_more, one_more, rest_length}
 use Rattle.om_graph.proofs.Steps.{none_from, more_from, stops_from}
 use Rattle.om_graph.proofs.fusions.+add_tuples.Goals as goal

@@ -1,6 +1,6 @@
-use Rattle.std.proofs.Common.{◌≡◌, ℕ, ◌+◌, ◌<◌, ◌≤◌, ◌++◌, ◌∷◌, [], List, Option, Some, map, flat_map, length, ap, sym, subst, ◌∙◌, arith}
+use Rattle.std.proofs.Common.{ℕ, ◌+◌, ◌<◌, ◌++◌, ◌∷◌, [], Option, map, flat_map, length, ap, sym, subst, ◌∙◌}
 use Rattle.om_graph.specs.declared.Key.{Key}
-use Rattle.om_graph.specs.Loops.{Signed, CanJoinAt, chosen_nodes, counts, fused_at, fused_by, fused_seen, fused_with}
+use Rattle.om_graph.specs.Loops.{Signed, chosen_nodes, counts, fused_at, fused_seen, fused_with}
 use Rattle.om_graph.specs.Reactions.{reaction_in}
 use Rattle.om_graph.proofs.FusedKeys.{key_is, found_is, fits_at, minus_is}
 use Rattle.om_graph.proofs.Steps.{none_yet, more, stops}

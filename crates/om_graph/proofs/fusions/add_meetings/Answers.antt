@@ -1,11 +1,9 @@
-use Rattle.std.proofs.Common.{◌≡◌, ℕ, ◌+◌, ◌<◌, ◌≤◌, ◌++◌, [], ◌∷◌, List, Option, Some, None, map, flat_map, take, get_or, length, false, ap, sym, subst, ◌∙◌, arith}
+use Rattle.std.proofs.Common.{◌+◌, ◌<◌, ◌++◌, List, None, map, flat_map, take, get_or, length, false, ap, sym, subst, ◌∙◌, arith}
 use Rattle.om_ring.specs.Members.{In}
 use Rattle.om_graph.specs.declared.Key.{Key}
 use Rattle.om_graph.specs.declared.fields.Meeting.{Meeting}
-use Rattle.om_graph.specs.Graph.{at_numbers}
-use Rattle.om_graph.specs.Loops.{Signed, CanJoinAt, chosen_nodes, fused_by, fused_seen, meet_fused, meetings_of}
+use Rattle.om_graph.specs.Loops.{Signed, chosen_nodes, fused_by, fused_seen, meetings_of}
 use Rattle.om_graph.specs.Reactions.{reaction_in}
-use Rattle.om_graph.specs.Tuples.{met, met_by}
 use Rattle.om_graph.specs.Vertices.{fields_of}
 use Rattle.om_graph.proofs.MeetingLists.{same_meetings, meeting_vertex, in_at}
 use Rattle.om_graph.proofs.MetFused.{met_is}

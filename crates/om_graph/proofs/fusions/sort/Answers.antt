@@ -1,4 +1,4 @@
-use Rattle.std.proofs.Common.{◌≡◌, ℕ, ◌+◌, ◌<◌, ◌∙◌, false, slice_index_or, ap, sym, arith}
+use Rattle.std.proofs.Common.{◌+◌, ◌∙◌, slice_index_or, ap, sym, arith}
 use Rattle.std.proofs.lemmas.List.Sorted.{All-permutation}
 use Rattle.om_graph.specs.SetWalk.{IsOver}
 use Rattle.om_graph.proofs.FoundOrder.{fused_before}

@@ -1,4 +1,4 @@
-use Rattle.std.proofs.Common.{◌≡◌, ℕ, List, map, flat_map, subst, inl, inr, refl}
+use Rattle.std.proofs.Common.{ℕ, map, flat_map, subst, inl, inr, refl}
 use Rattle.om_legs.specs.Legs.{all_legs}
 use Rattle.om_legs.specs.Splits.{AreSplits}
 use Rattle.om_graph.specs.Loops.{closed_seen, meet_closed, met_partition}

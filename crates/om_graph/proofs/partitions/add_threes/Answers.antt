@@ -1,4 +1,4 @@
-use Rattle.std.proofs.Common.{◌≡◌, ℕ, ◌+◌, ◌<◌, ◌≤◌, ◌++◌, [], ◌∷◌, List, map, flat_map, take, length, refl, ap, sym, subst, ◌∙◌, arith}
+use Rattle.std.proofs.Common.{map, length, arith}
 use Rattle.std.proofs.lemmas.Iterator.Consumers.{YieldsList-from_first, YieldsList-turn, YieldsList-end, YieldsList-so_far}
 use Rattle.om_graph.specs.Loops.{closed_seen, meet_closed, met_partition}
 use Rattle.om_graph.specs.Reactions.{reaction_in}

@@ -1,4 +1,4 @@
-use Rattle.std.proofs.Common.{◌≡◌, sym, subst, IsPermutation, IsSortedBy}
+use Rattle.std.proofs.Common.{sym, subst, IsPermutation, IsSortedBy}
 use Rattle.om_graph.specs.Graph.{found_lt}
 use Rattle.om_graph.specs.Loops.{closed_found}
 use Rattle.om_graph.specs.Possible.{flow_lt}

@@ -1,4 +1,4 @@
-use Rattle.std.proofs.Common.{◌≡◌, ◌-◌, ◌<◌, ◌≤◌, ◌∙◌, ap, ap₂, subst, sym}
+use Rattle.std.proofs.Common.{◌-◌, ◌<◌, ◌≤◌, ◌∙◌, ap, ap₂, subst, sym}
 use Rattle.om_model.specs.ModelLines.{kinds_of}
 use Rattle.om_graph.specs.declared.Graph.{Graph}
 use Rattle.om_graph.specs.declared.TheConstants.{MOST_TERMS}

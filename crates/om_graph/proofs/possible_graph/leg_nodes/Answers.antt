@@ -1,4 +1,4 @@
-use Rattle.std.proofs.Common.{◌≡◌, ◌∙◌, arith}
+use Rattle.std.proofs.Common.{◌∙◌, arith}
 use Rattle.om_graph.specs.Reactions.{reaction_in}
 use Rattle.om_graph.proofs.LegNodes.{leg_more, leg_stands, no_legs}
 use Rattle.om_graph.proofs.possible_graph.leg_nodes.Goals as goal

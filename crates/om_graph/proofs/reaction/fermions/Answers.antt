@@ -1,4 +1,4 @@
-use Rattle.std.proofs.Common.{◌≡◌, ◌∙◌, ap, sym, arith}
+use Rattle.std.proofs.Common.{◌∙◌, ap, sym, arith}
 use Rattle.om_model.specs.Model.{spin_of_field}
 use Rattle.om_graph.specs.Reactions.{is_fermion_leg}
 use Rattle.om_model.specs.ModelLines.{is_dirac}

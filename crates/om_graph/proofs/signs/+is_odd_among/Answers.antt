@@ -1,6 +1,5 @@
-use Rattle.std.proofs.Common.{◌≡◌, ℕ, ◌-◌, take, drop, length, ap, ◌∙◌}
-use Rattle.om_legs.specs.Crossings.{crossings, is_odd}
-use Rattle.om_legs.specs.Legs.{legs_of, meeting}
+use Rattle.std.proofs.Common.{ℕ, ◌-◌, take, drop, length, ap, ◌∙◌}
+use Rattle.om_legs.specs.Crossings.{is_odd}
 use Rattle.om_graph.specs.Vertices.{crossings_with}
 use Rattle.om_graph.proofs.Choosing.{first_and_rest}
 use Rattle.om_graph.proofs.Parity.{none_among, one_among}

@@ -1,4 +1,4 @@
-use Rattle.std.proofs.Common.{◌≡◌, ◌≤◌, ◌∙◌, sym, ap, length, arith}
+use Rattle.std.proofs.Common.{◌∙◌, ap, length, arith}
 use Rattle.om_graph.specs.Reactions.{reaction_in}
 use Rattle.om_graph.specs.Vertices.{closed_slots, four_slots}
 use Rattle.om_graph.proofs.Filling.{filled_all, few_keys}

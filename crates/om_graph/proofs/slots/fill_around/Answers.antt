@@ -1,4 +1,4 @@
-use Rattle.std.proofs.Common.{◌≡◌, ◌≤◌, ◌∙◌, sym, ap, length, arith}
+use Rattle.std.proofs.Common.{◌∙◌, ap, length, arith}
 use Rattle.om_model.specs.Model.{anti_field}
 use Rattle.om_graph.specs.Reactions.{reaction_in}
 use Rattle.om_graph.specs.Vertices.{fused_slots, four_slots, hole_of}

@@ -1,4 +1,4 @@
-use Rattle.std.proofs.Common.{◌≡◌, refl}
+use Rattle.std.proofs.Common.{refl}
 use Rattle.om_graph.specs.Loops.{fused_found}
 use Rattle.om_graph.specs.Possible.{nodes_at}
 use Rattle.om_graph.proofs.AddedSigns.{term_signs}

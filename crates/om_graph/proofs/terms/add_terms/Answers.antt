@@ -1,9 +1,9 @@
-use Rattle.std.proofs.Common.{◌≡◌, ◌∙◌, ap, sym, subst, take, map, slice_index_or}
+use Rattle.std.proofs.Common.{◌∙◌, ap, sym, subst, slice_index_or}
 use Rattle.om_graph.specs.Caches.{StandLast}
 use Rattle.om_graph.specs.Graph.{Found}
 use Rattle.om_graph.specs.Loops.{fused_found}
 use Rattle.om_graph.specs.Possible.{key_lt, state_of}
-use Rattle.om_graph.specs.Search.{State, add, add_all}
+use Rattle.om_graph.specs.Search.{State, add}
 use Rattle.om_graph.specs.SetWalk.{HasFoundSign}
 use Rattle.om_graph.specs.declared.Key.{Key}
 use Rattle.om_graph.proofs.AddedSigns.{as_long, found_at, longer_found, still_longer}

@@ -1,4 +1,4 @@
-use Rattle.std.proofs.Common.{◌≡◌, ◌-◌, ap, sym, subst, IsPermutation, IsSortedBy}
+use Rattle.std.proofs.Common.{◌-◌, ap, sym, subst, IsPermutation, IsSortedBy}
 use Rattle.om_graph.specs.Graph.{found_lt}
 use Rattle.om_graph.specs.Loops.{fused_found}
 use Rattle.om_graph.specs.Possible.{key_lt}

@@ -1,4 +1,4 @@
-use Rattle.std.proofs.Common.{◌≡◌, ◌∙◌, false, List, ℕ, ◌+◌, ◌-◌, ◌/◌, ◌<◌, ap, flat_map, length, sym, subst, arith}
+use Rattle.std.proofs.Common.{◌≡◌, false, List, ℕ, ◌+◌, ◌-◌, ◌/◌, ◌<◌, flat_map, length, sym, subst, arith}
 use Rattle.om_graph.specs.declared.TheConstants.{MOST_TERMS}
 use Rattle.om_graph.specs.Caches.{counts_from}
 use Rattle.om_graph.specs.Possible.{state_of}

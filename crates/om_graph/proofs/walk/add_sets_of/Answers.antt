@@ -1,4 +1,4 @@
-use Rattle.std.proofs.Common.{◌≡◌, ◌∙◌, List, ℕ, ◌+◌, ◌-◌, ◌/◌, ◌<◌, ap, flat_map, length, sym, subst, arith}
+use Rattle.std.proofs.Common.{◌≡◌, ◌∙◌, List, ℕ, ◌+◌, ◌-◌, ◌<◌, ap, flat_map, length, sym, subst, arith}
 use Rattle.om_legs.specs.Legs.{all_legs}
 use Rattle.om_graph.specs.declared.TheConstants.{MOST_TERMS}
 use Rattle.om_graph.specs.Caches.{counts_from}

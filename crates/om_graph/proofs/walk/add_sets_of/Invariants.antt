@@ -1,4 +1,4 @@
-use Rattle.std.proofs.Common.{◌≡◌, ◌-◌, ◌≤◌, flat_map, false}
+use Rattle.std.proofs.Common.{◌-◌, ◌≤◌, flat_map, false}
 use Rattle.om_graph.specs.Caches.{AreMeetings, counts_from}
 use Rattle.om_graph.specs.Reactions.{reaction_in}
 use Rattle.om_graph.specs.SetSearch.{set_at}
