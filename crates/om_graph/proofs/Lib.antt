@@ -49,3 +49,4 @@ pub mod SignedLists
 pub mod SetStep
 pub mod KeyStep
 pub mod WholeGraph
+pub mod OnePossible

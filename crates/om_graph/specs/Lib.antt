@@ -14,3 +14,4 @@ pub mod Caches
 pub mod Fillings
 pub mod SetSearch
 pub mod SetWalk
+pub mod OnePossible

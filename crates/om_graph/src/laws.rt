@@ -1,6 +1,7 @@
 //! Laws of what can be fused out of the legs of a process. Each is the contract of a function that does nothing.
 ghost use Rattle.om_graph.specs.ColoursFit.{NodesClose, NodesJoin};
 ghost use Rattle.om_graph.specs.HaveReactions.{WellFormedHaveReactions};
+ghost use Rattle.om_graph.specs.OnePossible.{OnePossible};
 ghost use Rattle.om_graph.specs.Possible.{flow_lt, key_lt};
 ghost use Rattle.om_graph.specs.TreeKeys.{NodesAreSound, SidesHaveKeys};
 ghost use Rattle.om_model.specs.Order.{IsOrder};
@@ -31,4 +32,9 @@ pub fn colours_fit()
 /// A process over a well-formed model has lines and named edges as the laws of its keys ask for.
 pub fn well_formed_have_reactions()
     ensures { WellFormedHaveReactions }
+{}
+
+/// There is one possible graph of a process, so the number of its terms is a number of the process.
+pub fn one_possible_graph()
+    ensures { OnePossible }
 {}
