@@ -13,6 +13,6 @@ loop-i-init c =
 pub loop-i-preserved : goal.loop-i-preserved
 loop-i-preserved c = record {
   last = last_uses_more c.args.registers c.args.instrs.now c.loop-i.i c.index-instrs-i.result c.loop-i.last.items c.mark_each.new.last.items (omega arith) c.index-instrs-i.is c.loop-i.invariant.last
-      (c.mark_each.ensures.marked ∙ ap (mark_each c.loop-i.i c.loop-i.last.items) (c.as_slice.ensures.same ∙ c.named_by.ensures));
+      (c.mark_each.ensures.marked ∙ ap (mark_each c.loop-i.i c.loop-i.last.items) (c.as_slice.ensures.same ∙ c.operands.ensures));
   length = c.mark_each.ensures.length ∙ c.loop-i.invariant.length;
 }
