@@ -1,70 +1,79 @@
 //! The text of the answer to an event.
-ghost use Rattle.std.specs.Prelude.{◌≡◌, ◌+◌, ◌*◌, ◌≤◌, ◌++◌, [], length, decimal, codes};
-ghost use Rattle.om_ring.specs.declared.line.TheConstants.{LINE_BYTES};
-ghost use Rattle.om_top.specs.AnswerOf.{answer_of};
-ghost use Rattle.om_top.specs.AnswerText.{set_text, answer_text, IsShort};
 
-use crate::answer::Answer;
-use om_model::{Model, field_name};
+use om_code::Code;
+use om_colour::{Flow, flow_text};
+use om_io::{Failed, Sink, write_all};
+use om_legs::LegSet;
+use om_machine::{Machine, Outcome};
+use om_model::field_name;
+use om_program_text::push_set;
 use om_ring::{Line, Ring};
 
-/// Appends the line of the answer to event number `number`. Where there is no diagram, there is no line.
-pub(crate) fn push_answer<R: Ring>(
+/// Writes the lines of the answer to event number `number`, which the machine gave last.
+pub(crate) fn write_answer<R: Ring, O: Sink>(
     ring: &R,
-    model: &Model,
-    number: u64,
-    answer: &Answer<R::E>,
-    line: &mut Line,
-)
-    requires empty { line.old ≡ [] }
-    requires short { IsShort (answer_of answer.now) }
-    ensures { line.new ≡ answer_text (R.text ring.now) model.now number (answer_of answer.now) }
+    machine: &Machine<R::E>,
+    number: u32,
+    outcome: Outcome,
+    out: &mut O,
+) -> Result<(), Failed>
 {
-    match answer {
-        Answer::Unbalanced => {
-            push_start(number, line);
+    match outcome {
+        Outcome::Values => write_values(ring, machine, number, out),
+        Outcome::Pole { legs, field } => {
+            let mut line = Line::new();
+            push_pole(machine.code(), number, legs, field, &mut line);
+            write_all(out, line.bytes())
+        }
+        Outcome::Unbalanced => {
+            let mut line = Line::new();
+            push_start(number, &mut line);
             line.push(b"unbalanced\n");
+            write_all(out, line.bytes())
         }
-        Answer::Pole(edge) => {
-            push_start(number, line);
-            line.push(b"pole ");
-            push_set(edge.legs(), line);
-            line.push(b" ");
-            line.push(field_name(model.particles.as_slice(), edge.field()));
-            line.push(b"\n");
-        }
-        Answer::Values(Some(value)) => {
-            push_start(number, line);
-            line.push(b"- ");
-            ring.show(*value, line);
-            line.push(b"\n");
-        }
-        Answer::Values(None) => {}
     }
+}
+
+/// Writes a line for each flow.
+fn write_values<R: Ring, O: Sink>(
+    ring: &R,
+    machine: &Machine<R::E>,
+    number: u32,
+    out: &mut O,
+) -> Result<(), Failed>
+{
+    for (k, flow) in machine.code().flows.as_slice().iter().enumerate() {
+        let mut line = Line::new();
+        push_value(ring, number, flow, machine.value(k as u32), &mut line);
+        write_all(out, line.bytes())?;
+    }
+    Ok(())
+}
+
+/// Appends the line of a flow.
+fn push_value<R: Ring>(ring: &R, number: u32, flow: &Flow, value: R::E, line: &mut Line)
+{
+    push_start(number, line);
+    flow_text(flow, line);
+    line.push(b" ");
+    ring.show(value, line);
+    line.push(b"\n");
+}
+
+/// Appends the line of a denominator without inverse.
+fn push_pole(code: &Code, number: u32, legs: LegSet, field: u16, line: &mut Line)
+{
+    push_start(number, line);
+    line.push(b"pole ");
+    push_set(legs, line);
+    line.push(b" ");
+    line.push(field_name(code.model.particles.as_slice(), field));
+    line.push(b"\n");
 }
 
 /// Appends the number of an event and a space.
-fn push_start(number: u64, line: &mut Line)
-    requires { length line.old ≤ 400 }
-    ensures value { line.new ≡ line.old ++ (decimal number ++ codes " ") }
-    ensures short { length line.new ≤ length line.old + 21 }
+fn push_start(number: u32, line: &mut Line)
 {
-    line.push_number(number);
+    line.push_number(u64::from(number));
     line.push(b" ");
-}
-
-/// Appends the legs, joined by plus signs.
-fn push_set(legs: &[u8], line: &mut Line)
-    requires { length line.old + 21 * length legs.now ≤ LINE_BYTES }
-    ensures set { line.new ≡ line.old ++ set_text legs.now }
-    ensures short { length line.new ≤ length line.old + 21 * length legs.now }
-{
-    let [first, others @ ..] = legs else {
-        return;
-    };
-    line.push_number(u64::from(*first));
-    for leg in others {
-        line.push(b"+");
-        line.push_number(u64::from(*leg));
-    }
 }

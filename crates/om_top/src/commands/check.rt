@@ -5,8 +5,8 @@ ghost use Rattle.om_top.specs.CheckRan.{CheckRan, check_text};
 ghost use Rattle.om_top.specs.Outside.{side};
 
 use crate::ending::Ending;
-use crate::eval::write_text;
-use crate::model_file::load_model;
+use crate::load::load_model;
+use crate::write::write_text;
 use om_io::{Folder, Sink};
 use om_model::Model;
 use om_ring::{Line, Ring, Steps};

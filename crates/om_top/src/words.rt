@@ -1,7 +1,7 @@
 //! Words that are too many or too long.
 ghost use Rattle.std.specs.Prelude.{◌≡◌, ◌<◌, ◌↔◌, All, IsTrue, length, map, string_bytes};
 ghost use Rattle.om_top.specs.declared.ending.Ending.TheVariants as ending;
-ghost use Rattle.om_top.specs.declared.limits.TheConstants.{WORD_LIMIT};
+ghost use Rattle.om_top.specs.declared.words.TheConstants.{WORD_LIMIT};
 ghost use Rattle.om_top.specs.Limits.{IsWithinLimits};
 ghost use Rattle.om_top.specs.Message.{Told};
 ghost use Rattle.om_top.specs.Outside.{side};
@@ -9,12 +9,6 @@ ghost use Rattle.om_top.specs.Outside.{side};
 use crate::ending::{Ending, status};
 use crate::message::report;
 use om_io::Sink;
-
-/// The most bytes of the file of a model.
-pub const MOST_FILE_BYTES: u64 = 1_048_576;
-
-/// The most legs of a process whose events are evaluated so far.
-pub const MOST_EVALUATED_LEGS: usize = 5;
 
 /// More words, or bytes of a word, than a run takes: 2^31.
 pub const WORD_LIMIT: usize = 1 << 31;

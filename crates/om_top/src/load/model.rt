@@ -1,21 +1,18 @@
 //! The model of a file.
-ghost use Rattle.std.specs.Prelude.{◌≡◌, ℕ, ◌+◌, ◌*◌, ◌≤◌, ◌↔◌, IsTrue};
-ghost use Rattle.om_lorentz.specs.declared.structures.Spin.TheVariants.{Scalar};
-ghost use Rattle.om_colour.specs.declared.Colour.TheVariants.{One};
-ghost use Rattle.om_model.specs.ScalarRules.{HasColourlessScalars};
+ghost use Rattle.std.specs.Prelude.{ℕ, ◌+◌, ◌*◌, ◌≤◌};
 ghost use Rattle.om_top.specs.Calls.{LoadMayCall, file_calls};
 ghost use Rattle.om_top.specs.Loads.{LoadsModel, ReadsModel};
 ghost use Rattle.om_top.specs.Outside.{side};
 
 use crate::ending::Ending;
-use crate::limits::MOST_FILE_BYTES;
-use om_colour::Colour;
 use om_io::{FileFault, Folder, read_file};
-use om_lorentz::Spin;
-use om_model::{Model, Particle};
+use om_model::Model;
 use om_modelfile::{ModelFault, read_model};
 use om_ring::{Ring, Steps};
 use std::alloc::Global;
+
+/// The most bytes of the file of a model.
+pub const MOST_MODEL_BYTES: u64 = 1_048_576;
 
 /// The model of the file of this name. Where there is none, the answer is how the run ends.
 pub(crate) fn load_model<R: Ring<Mark = L>, F: Folder, L>(
@@ -29,7 +26,7 @@ pub(crate) fn load_model<R: Ring<Mark = L>, F: Folder, L>(
     ensures calls { let file = side (λ f. F.file f name.now) (λ f. F.faults f name.now) files.old files.new in
         (n : ℕ) × LoadMayCall file result n × (steps.new ≤ steps.old + n * R.cost ring.now) }
 {
-    match read_file(alloc, files, name, MOST_FILE_BYTES) {
+    match read_file(alloc, files, name, MOST_MODEL_BYTES) {
         Ok(bytes) => model_of(alloc, ring, &bytes, steps),
         Err(FileFault::TooLong) => Err(Ending::ModelTooLong),
         Err(FileFault::Failed) => Err(Ending::FileFault),
@@ -52,22 +49,4 @@ fn model_of<R: Ring<Mark = L>, L>(
         Err(ModelFault::Memory) => Err(Ending::NoMemory),
         Err(fault) => Err(Ending::ModelFault(fault)),
     }
-}
-
-/// Whether each particle of a model is a scalar of colour 1.
-pub(crate) fn has_colourless_scalars(model: &Model) -> bool
-    ensures { IsTrue result ↔ HasColourlessScalars model.now }
-{
-    for particle in model.particles.as_slice() {
-        if !is_colourless_scalar(particle) {
-            return false;
-        }
-    }
-    true
-}
-
-fn is_colourless_scalar(particle: &Particle) -> bool
-    ensures { IsTrue result ↔ ((particle.now.spin ≡ Scalar) × (particle.now.colour ≡ One)) }
-{
-    matches!(particle.spin, Spin::Scalar) && matches!(particle.colour, Colour::One)
 }

@@ -1,27 +1,20 @@
 //! The process of a text.
 ghost use Rattle.std.specs.Prelude.{◌<◌, ◌≤◌, ◌^◌, length};
-ghost use Rattle.om_top.specs.declared.limits.TheConstants.{WORD_LIMIT};
+ghost use Rattle.om_top.specs.declared.words.TheConstants.{WORD_LIMIT};
 ghost use Rattle.om_top.specs.Loads.{LoadsProcess};
 
 use crate::ending::Ending;
-use crate::limits::MOST_EVALUATED_LEGS;
 use om_model::{Model, Process, ProcessFault, read_process};
 use std::alloc::Global;
 
-/// The process of the model that a text is. Where there is none that is evaluated, the answer is how the run ends.
+/// The process of the model that a text is. Where there is none, the answer is how the run ends.
 pub(crate) fn load_process(alloc: Global, model: &Model, text: &str) -> Result<Process, Ending>
     requires rows { length model.now.particles ≤ 2 ^ 15 }
     requires bytes { length text.now < WORD_LIMIT }
     ensures { LoadsProcess model.now text.now result }
 {
     match read_process(alloc, model, text.as_bytes()) {
-        Ok(process) => {
-            if process.legs.len() > MOST_EVALUATED_LEGS {
-                Err(Ending::ProcessNotBuilt)
-            } else {
-                Ok(process)
-            }
-        }
+        Ok(process) => Ok(process),
         Err(ProcessFault::Memory) => Err(Ending::NoMemory),
         Err(fault) => Err(Ending::ProcessFault(fault)),
     }
