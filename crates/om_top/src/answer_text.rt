@@ -1,4 +1,14 @@
 //! The text of the answer to an event.
+ghost use Rattle.std.specs.Prelude.{◌≡◌, ◌+◌, ◌≤◌, ◌++◌, [], length, decimal, codes, ℕ, OnErr, OnOk, Some};
+ghost use Rattle.std.specs.List.{flat_map};
+ghost use Rattle.om_io.specs.Bytes.{AppendsPrefix, after_told};
+ghost use Rattle.om_io.specs.Causes.{HasCause};
+ghost use Rattle.om_code.specs.Meaning.{edge_of_den};
+ghost use Rattle.om_emit.specs.EmittedAnswer.{answer_with, with_sums};
+ghost use Rattle.om_machine.specs.Loaded.{answer_of};
+ghost use Rattle.om_machine.specs.declared.answer.Outcome.TheVariants.{Values};
+ghost use Rattle.om_model.specs.Answer.Answer.{pole, values};
+ghost use Rattle.om_top.specs.AnswerText.{answer_line, answer_text, value_text};
 
 use om_code::Code;
 use om_colour::{Flow, flow_text};
@@ -9,7 +19,7 @@ use om_model::field_name;
 use om_program_text::push_set;
 use om_ring::{Line, Ring};
 
-/// Writes the lines of the answer to event number `number`, which the machine gave last.
+/// Writes the lines of the answer to event number `number`, which is what the machine answered last.
 pub(crate) fn write_answer<R: Ring, O: Sink>(
     ring: &R,
     machine: &Machine<R::E>,
@@ -17,21 +27,23 @@ pub(crate) fn write_answer<R: Ring, O: Sink>(
     outcome: Outcome,
     out: &mut O,
 ) -> Result<(), Failed>
+    requires { machine.now.outcome ≡ Some outcome }
+    ensures ok { let m = machine.now in
+        OnOk result (O.written out.new ≡ after_told (O.written out.old) (answer_text (R.text ring.now) m.code.model number (answer_with m.code.flows (answer_of outcome m.sums)))) }
+    ensures err { let m = machine.now in
+        OnErr result (AppendsPrefix (O.written out.old) (O.written out.new) (answer_text (R.text ring.now) m.code.model number (answer_with m.code.flows (answer_of outcome m.sums)))) }
+    ensures cause { HasCause (O.faults out.old) (O.faults out.new) result }
 {
+    let mut line = Line::new();
     match outcome {
-        Outcome::Values => write_values(ring, machine, number, out),
-        Outcome::Pole { legs, field } => {
-            let mut line = Line::new();
-            push_pole(machine.code(), number, legs, field, &mut line);
-            write_all(out, line.bytes())
-        }
+        Outcome::Values => return write_values(ring, machine, number, out),
+        Outcome::Pole { legs, field } => push_pole(machine.code(), number, legs, field, &mut line),
         Outcome::Unbalanced => {
-            let mut line = Line::new();
             push_start(number, &mut line);
             line.push(b"unbalanced\n");
-            write_all(out, line.bytes())
         }
     }
+    write_all(out, line.bytes())
 }
 
 /// Writes a line for each flow.
@@ -41,6 +53,12 @@ fn write_values<R: Ring, O: Sink>(
     number: u32,
     out: &mut O,
 ) -> Result<(), Failed>
+    requires { machine.now.outcome ≡ Some Values }
+    ensures ok { let m = machine.now in
+        OnOk result (O.written out.new ≡ after_told (O.written out.old) (answer_text (R.text ring.now) m.code.model number (values (with_sums m.code.flows m.sums)))) }
+    ensures err { let m = machine.now in
+        OnErr result (AppendsPrefix (O.written out.old) (O.written out.new) (answer_text (R.text ring.now) m.code.model number (values (with_sums m.code.flows m.sums)))) }
+    ensures cause { HasCause (O.faults out.old) (O.faults out.new) result }
 {
     for (k, flow) in machine.code().flows.as_slice().iter().enumerate() {
         let mut line = Line::new();
@@ -52,6 +70,8 @@ fn write_values<R: Ring, O: Sink>(
 
 /// Appends the line of a flow.
 fn push_value<R: Ring>(ring: &R, number: u32, flow: &Flow, value: R::E, line: &mut Line)
+    requires { line.old ≡ [] }
+    ensures { line.new ≡ answer_line number (value_text (R.text ring.now) (flow.now.ends, value)) }
 {
     push_start(number, line);
     flow_text(flow, line);
@@ -62,6 +82,8 @@ fn push_value<R: Ring>(ring: &R, number: u32, flow: &Flow, value: R::E, line: &m
 
 /// Appends the line of a denominator without inverse.
 fn push_pole(code: &Code, number: u32, legs: LegSet, field: u16, line: &mut Line)
+    requires { line.old ≡ [] }
+    ensures { let d = record { legs = legs; field = field } in line.new ≡ answer_text (λ (x : ℕ). []) code.now.model number (pole (edge_of_den d)) }
 {
     push_start(number, line);
     line.push(b"pole ");
@@ -73,6 +95,9 @@ fn push_pole(code: &Code, number: u32, legs: LegSet, field: u16, line: &mut Line
 
 /// Appends the number of an event and a space.
 fn push_start(number: u32, line: &mut Line)
+    requires { length line.old ≤ 400 }
+    ensures value { line.new ≡ line.old ++ (decimal number ++ codes " ") }
+    ensures short { length line.new ≤ length line.old + 21 }
 {
     line.push_number(u64::from(number));
     line.push(b" ");

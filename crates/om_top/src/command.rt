@@ -1,6 +1,7 @@
 //! What the words of a call ask for.
-ghost use Rattle.std.specs.Prelude.{map, string_bytes};
-ghost use Rattle.om_top.specs.Asked.{Asks};
+ghost use Rattle.std.specs.Prelude.{◌≡◌, map, string_bytes};
+ghost use Rattle.om_top.specs.Asked.{Asks, asked};
+ghost use Rattle.om_top.specs.Command.{command_of_file, command_of_two, sample_of};
 
 use om_legs::MOST_LEGS;
 use om_model::limits::FEWEST_LEGS;
@@ -26,6 +27,7 @@ pub(crate) enum Command<'a> {
 
 /// The command that the words ask for.
 pub(crate) fn command_of(words: &[String]) -> Command<'_>
+    ensures { Asks (map (λ w. string_bytes w) words.now) result }
 {
     match words {
         [word, file] => command_of_file(word.as_str(), file.as_str()),
@@ -36,6 +38,7 @@ pub(crate) fn command_of(words: &[String]) -> Command<'_>
 
 /// The command with the name of a file alone.
 fn command_of_file<'a>(word: &str, file: &'a str) -> Command<'a>
+    ensures { command_of_file word.now file.now ≡ asked result }
 {
     if word == "check" {
         Command::Check(file)
@@ -48,6 +51,7 @@ fn command_of_file<'a>(word: &str, file: &'a str) -> Command<'a>
 
 /// The command with two words.
 fn command_of_two<'a>(word: &str, first: &'a str, second: &'a str) -> Command<'a>
+    ensures { command_of_two word.now first.now second.now ≡ asked result }
 {
     if word == "eval" {
         Command::Eval(first, second)
@@ -64,6 +68,7 @@ fn command_of_two<'a>(word: &str, first: &'a str, second: &'a str) -> Command<'a
 
 /// The sample of a seed and a number of legs.
 fn sample_of<'a>(seed: &[u8], legs: &[u8]) -> Command<'a>
+    ensures { sample_of seed.now legs.now ≡ asked result }
 {
     match (read_decimal(seed), read_decimal_below(legs, u64::from(MOST_LEGS) + 1)) {
         (Some(seed), Some(legs)) if legs >= FEWEST_LEGS as u64 => Command::Sample(seed, legs as u8),

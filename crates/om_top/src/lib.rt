@@ -6,7 +6,6 @@ mod command;
 mod commands;
 mod ending;
 mod faults;
-pub mod laws;
 mod load;
 mod message;
 mod stream;

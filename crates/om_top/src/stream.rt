@@ -1,4 +1,11 @@
 //! The answers to the events of an input.
+ghost use Rattle.std.specs.Prelude.{◌≡◌, ◌*◌, ◌+◌, ◌≤◌, ℕ};
+ghost use Rattle.om_machine.specs.Events.{IsMadeFor};
+ghost use Rattle.om_top.specs.Cost.{EventsMayCall};
+ghost use Rattle.om_top.specs.Loads.{IsLoaded};
+ghost use Rattle.om_top.specs.Outside.{side};
+ghost use Rattle.om_top.specs.RunRan.{OwesMeaning, RunsOrNot};
+ghost use Rattle.om_top.specs.Streamed.{Streamed, ending_of, kinds_of};
 
 use crate::answer_text::write_answer;
 use crate::ending::Ending;
@@ -20,6 +27,9 @@ pub(crate) fn answer_events<R: Ring<Mark = L>, S: Source, O: Sink, L>(
     out: &mut O,
     steps: &mut Steps<L>,
 ) -> Ending
+    requires { IsLoaded (R.ops ring.now) machine.old }
+    ensures ran { RunsOrNot (R.ops ring.now) (R.text ring.now) machine.old.code (side S.left S.faults input.old input.new) (side O.written O.faults out.old out.new) result }
+    ensures calls { (n : ℕ) × EventsMayCall (R.ops ring.now) machine.old.code (side S.left S.faults input.old input.new) n × (steps.new ≤ steps.old + n * R.cost ring.now) }
 {
     if machine.code().flows.is_empty() {
         return write_text(out, b"no amplitude\n");
@@ -39,6 +49,11 @@ fn stream<R: Ring<Mark = L>, S: Source, O: Sink, L>(
     out: &mut O,
     steps: &mut Steps<L>,
 ) -> Ending
+    requires loaded { IsLoaded (R.ops ring.now) machine.old }
+    requires made { IsMadeFor machine.old.code event.old }
+    ensures streamed { let c = machine.old.code in
+        Streamed (OwesMeaning (R.ops ring.now) (R.text ring.now) c) (R.ops ring.now) (kinds_of c.model.particles c.legs) (side S.left S.faults input.old input.new) (side O.written O.faults out.old out.new) result }
+    ensures calls { (n : ℕ) × EventsMayCall (R.ops ring.now) machine.old.code (side S.left S.faults input.old input.new) n × (steps.new ≤ steps.old + n * R.cost ring.now) }
 {
     let mut reader = Reader::new(machine.code());
     for number in 1..=MOST_EVENTS {
@@ -53,12 +68,14 @@ fn stream<R: Ring<Mark = L>, S: Source, O: Sink, L>(
     }
     match ending_of(reader.next(ring, input, event, steps)) {
         Some(ending) => ending,
+        // After the last event that is read none comes.
         None => unreachable!(),
     }
 }
 
 /// How the run ends, unless an event came.
 fn ending_of(next: Next) -> Option<Ending>
+    ensures { result ≡ ending_of next }
 {
     match next {
         Next::Event => None,

@@ -8,13 +8,7 @@ use om_io::{Failed, Sink, write_all};
 pub(crate) fn write_text<O: Sink>(out: &mut O, text: &[u8]) -> Ending
     ensures { Writes (side O.written O.faults out.old out.new) text.now result }
 {
-    ended(write_all(out, text))
-}
-
-/// How a run ends after its last text.
-pub(crate) fn ended(written: Result<(), Failed>) -> Ending
-{
-    match written {
+    match write_all(out, text) {
         Ok(()) => Ending::Done,
         Err(Failed) => Ending::OutFault,
     }

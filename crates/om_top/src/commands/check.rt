@@ -1,8 +1,8 @@
 //! `check` tells what stands in a model.
 ghost use Rattle.std.specs.Prelude.{◌≡◌, ℕ, ◌+◌, ◌*◌, ◌≤◌, []};
-ghost use Rattle.om_top.specs.Calls.{CheckMayCall};
 ghost use Rattle.om_top.specs.CheckRan.{CheckRan, check_text};
-ghost use Rattle.om_top.specs.Outside.{side};
+ghost use Rattle.om_top.specs.Cost.{FileMayCall};
+ghost use Rattle.om_top.specs.Outside.{file_side, side};
 
 use crate::ending::Ending;
 use crate::load::load_model;
@@ -21,11 +21,8 @@ pub(crate) fn check<R: Ring<Mark = L>, F: Folder, O: Sink, L>(
     out: &mut O,
     steps: &mut Steps<L>,
 ) -> Ending
-    ensures ran { let file = side (λ f. F.file f name.now) (λ f. F.faults f name.now) files.old files.new in
-        let out = side O.written O.faults out.old out.new in
-        CheckRan (R.ops ring.now) file out result }
-    ensures calls { let file = side (λ f. F.file f name.now) (λ f. F.faults f name.now) files.old files.new in
-        (n : ℕ) × CheckMayCall file n × (steps.new ≤ steps.old + n * R.cost ring.now) }
+    ensures ran { CheckRan (R.ops ring.now) (file_side F.file F.faults name.now files.old files.new) (side O.written O.faults out.old out.new) result }
+    ensures calls { (n : ℕ) × FileMayCall (file_side F.file F.faults name.now files.old files.new) n × (steps.new ≤ steps.old + n * R.cost ring.now) }
 {
     let model = match load_model(alloc, ring, files, name, steps) {
         Ok(model) => model,

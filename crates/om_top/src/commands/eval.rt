@@ -1,14 +1,19 @@
 //! `eval` answers events.
+ghost use Rattle.std.specs.Prelude.{ℕ, ◌+◌, ◌*◌, ◌<◌, ◌≤◌, length};
+ghost use Rattle.om_top.specs.Cost.{EvalMayCall};
+ghost use Rattle.om_top.specs.EvalRan.{EvalRan};
+ghost use Rattle.om_top.specs.Outside.{file_side, side};
+ghost use Rattle.om_top.specs.declared.words.TheConstants.{WORD_LIMIT};
 
 use crate::ending::Ending;
-use crate::load::{load_graph, load_machine, load_model, load_process};
+use crate::load::{load_machine, load_named};
 use crate::stream::answer_events;
 use om_io::{Folder, Sink, Source};
-use om_model::{Model, Process};
 use om_ring::{Ring, Steps};
 use std::alloc::Global;
 
-/// Answers the events of the input for the process that the text names in the model of the file.
+/// Answers the events of the input for the process that the text names in the model of the file. All memory is taken before anything
+/// is read from the input or written.
 pub(crate) fn eval<R: Ring<Mark = L>, F: Folder, S: Source, O: Sink, L>(
     alloc: Global,
     ring: &R,
@@ -19,36 +24,16 @@ pub(crate) fn eval<R: Ring<Mark = L>, F: Folder, S: Source, O: Sink, L>(
     out: &mut O,
     steps: &mut Steps<L>,
 ) -> Ending
+    requires { length process.now < WORD_LIMIT }
+    ensures ran { EvalRan (R.ops ring.now) (R.text ring.now) (file_side F.file F.faults name.now files.old files.new) process.now (side S.left S.faults input.old input.new) (side O.written O.faults out.old out.new) result }
+    ensures calls { (n : ℕ) × EvalMayCall (R.ops ring.now) (file_side F.file F.faults name.now files.old files.new) process.now (side S.left S.faults input.old input.new) n × (steps.new ≤ steps.old + n * R.cost ring.now) }
 {
-    let model = match load_model(alloc, ring, files, name, steps) {
-        Ok(model) => model,
+    let named = match load_named(alloc, ring, files, name, process, steps) {
+        Ok(named) => named,
         Err(ending) => return ending,
     };
-    let process = match load_process(alloc, &model, process) {
-        Ok(process) => process,
-        Err(ending) => return ending,
-    };
-    eval_process(alloc, ring, &model, &process, input, out, steps)
-}
-
-/// Answers the events of the input for a process over an accepted model.
-fn eval_process<R: Ring<Mark = L>, S: Source, O: Sink, L>(
-    alloc: Global,
-    ring: &R,
-    model: &Model,
-    process: &Process,
-    input: &mut S,
-    out: &mut O,
-    steps: &mut Steps<L>,
-) -> Ending
-{
-    let pruned = match load_graph(alloc, model, process) {
-        Ok(pruned) => pruned,
-        Err(ending) => return ending,
-    };
-    let mut machine = match load_machine(alloc, ring, model, process, &pruned, steps) {
-        Ok(machine) => machine,
-        Err(ending) => return ending,
-    };
-    answer_events(alloc, ring, &mut machine, input, out, steps)
+    match load_machine(alloc, ring, &named.model, &named.process, &named.graph, steps) {
+        Ok(mut machine) => answer_events(alloc, ring, &mut machine, input, out, steps),
+        Err(ending) => ending,
+    }
 }

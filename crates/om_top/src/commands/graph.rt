@@ -1,7 +1,12 @@
 //! `graph` writes the graph of a process.
+ghost use Rattle.std.specs.Prelude.{ℕ, ◌+◌, ◌*◌, ◌<◌, ◌≤◌, length};
+ghost use Rattle.om_top.specs.Cost.{FileMayCall};
+ghost use Rattle.om_top.specs.GraphRan.{GraphRan};
+ghost use Rattle.om_top.specs.Outside.{file_side, side};
+ghost use Rattle.om_top.specs.declared.words.TheConstants.{WORD_LIMIT};
 
 use crate::ending::Ending;
-use crate::load::{load_graph, load_model, load_process};
+use crate::load::load_named;
 use om_io::{Folder, Sink};
 use om_ring::{Ring, Steps};
 use std::alloc::Global;
@@ -16,20 +21,15 @@ pub(crate) fn graph<R: Ring<Mark = L>, F: Folder, O: Sink, L>(
     out: &mut O,
     steps: &mut Steps<L>,
 ) -> Ending
+    requires { length process.now < WORD_LIMIT }
+    ensures ran { GraphRan (R.ops ring.now) (file_side F.file F.faults name.now files.old files.new) process.now (side O.written O.faults out.old out.new) result }
+    ensures calls { (n : ℕ) × FileMayCall (file_side F.file F.faults name.now files.old files.new) n × (steps.new ≤ steps.old + n * R.cost ring.now) }
 {
-    let model = match load_model(alloc, ring, files, name, steps) {
-        Ok(model) => model,
+    let named = match load_named(alloc, ring, files, name, process, steps) {
+        Ok(named) => named,
         Err(ending) => return ending,
     };
-    let process = match load_process(alloc, &model, process) {
-        Ok(process) => process,
-        Err(ending) => return ending,
-    };
-    let pruned = match load_graph(alloc, &model, &process) {
-        Ok(pruned) => pruned,
-        Err(ending) => return ending,
-    };
-    // here write_listing(&model, &pruned, out) of om_listing
-    let _ = (pruned.graph().nodes.len(), out);
+    // Here the listing of named.graph is written.
+    let _ = (named.graph, out);
     Ending::NoMemory
 }

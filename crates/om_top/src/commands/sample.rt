@@ -1,4 +1,8 @@
 //! `sample` evaluates events that are drawn.
+ghost use Rattle.std.specs.Prelude.{ℕ, ◌+◌, ◌*◌, ◌≤◌};
+ghost use Rattle.om_top.specs.Cost.{SampleMayCall};
+ghost use Rattle.om_top.specs.Outside.{side};
+ghost use Rattle.om_top.specs.SampleRan.{SampleRan};
 
 use crate::ending::Ending;
 use om_io::Sink;
@@ -14,8 +18,10 @@ pub(crate) fn sample<R: Ring<Mark = L>, O: Sink, L>(
     out: &mut O,
     steps: &mut Steps<L>,
 ) -> Ending
+    ensures ran { SampleRan (R.ops ring.now) (R.text ring.now) seed legs (side O.written O.faults out.old out.new) result }
+    ensures calls { (n : ℕ) × SampleMayCall (R.ops ring.now) seed legs n × (steps.new ≤ steps.old + n * R.cost ring.now) }
 {
-    // here sum_sample and write_sample of om_sample
+    // Here sum_sample and write_sample of om_sample are called.
     let _ = (alloc, ring, seed, legs, out, steps);
     Ending::NoMemory
 }

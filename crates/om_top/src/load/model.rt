@@ -1,8 +1,8 @@
 //! The model of a file.
 ghost use Rattle.std.specs.Prelude.{ℕ, ◌+◌, ◌*◌, ◌≤◌};
-ghost use Rattle.om_top.specs.Calls.{LoadMayCall, file_calls};
+ghost use Rattle.om_top.specs.Cost.{LoadMayCall, file_calls};
 ghost use Rattle.om_top.specs.Loads.{LoadsModel, ReadsModel};
-ghost use Rattle.om_top.specs.Outside.{side};
+ghost use Rattle.om_top.specs.Outside.{file_side};
 
 use crate::ending::Ending;
 use om_io::{FileFault, Folder, read_file};
@@ -22,8 +22,8 @@ pub(crate) fn load_model<R: Ring<Mark = L>, F: Folder, L>(
     name: &str,
     steps: &mut Steps<L>,
 ) -> Result<Model, Ending>
-    ensures model { LoadsModel (R.ops ring.now) (side (λ f. F.file f name.now) (λ f. F.faults f name.now) files.old files.new) result }
-    ensures calls { let file = side (λ f. F.file f name.now) (λ f. F.faults f name.now) files.old files.new in
+    ensures model { LoadsModel (R.ops ring.now) (file_side F.file F.faults name.now files.old files.new) result }
+    ensures calls { let file = file_side F.file F.faults name.now files.old files.new in
         (n : ℕ) × LoadMayCall file result n × (steps.new ≤ steps.old + n * R.cost ring.now) }
 {
     match read_file(alloc, files, name, MOST_MODEL_BYTES) {

@@ -1,4 +1,10 @@
 //! The program of a file.
+ghost use Rattle.std.specs.Prelude.{◌≡◌, ◌+◌, ◌*◌, ◌<◌, ◌≤◌, ◌^◌, ℕ, length, IfOk};
+ghost use Rattle.om_top.specs.Cost.{ProgramMayCall, program_calls};
+ghost use Rattle.om_top.specs.Loads.{LoadsProgram, ReadsCode, ReadsProgram};
+ghost use Rattle.om_top.specs.Loads.{IsLoaded};
+ghost use Rattle.om_top.specs.Outside.{file_side};
+ghost use Rattle.om_top.specs.declared.load.program.TheConstants.{MOST_PROGRAM_BYTES};
 
 use crate::ending::Ending;
 use crate::faults::ProgramFault;
@@ -21,6 +27,9 @@ pub(crate) fn load_program<R: Ring<Mark = L>, F: Folder, L>(
     name: &str,
     steps: &mut Steps<L>,
 ) -> Result<Machine<R::E>, Ending>
+    ensures program { LoadsProgram (R.ops ring.now) (file_side F.file F.faults name.now files.old files.new) result }
+    ensures loaded { IfOk result (IsLoaded (R.ops ring.now)) }
+    ensures calls { (n : ℕ) × ProgramMayCall (file_side F.file F.faults name.now files.old files.new) result n × (steps.new ≤ steps.old + n * R.cost ring.now) }
 {
     match read_file(alloc, files, name, MOST_PROGRAM_BYTES) {
         Ok(bytes) => machine_of(alloc, ring, &bytes, steps),
@@ -37,6 +46,10 @@ fn machine_of<R: Ring<Mark = L>, L>(
     bytes: &[u8],
     steps: &mut Steps<L>,
 ) -> Result<Machine<R::E>, Ending>
+    requires { length bytes.now ≤ MOST_PROGRAM_BYTES }
+    ensures program { ReadsProgram (R.ops ring.now) bytes.now result }
+    ensures loaded { IfOk result (IsLoaded (R.ops ring.now)) }
+    ensures calls { steps.new ≤ steps.old + program_calls bytes.now * R.cost ring.now }
 {
     let code = match verified_code(alloc, bytes) {
         Ok(code) => code,
@@ -53,6 +66,8 @@ fn machine_of<R: Ring<Mark = L>, L>(
 
 /// The verified code whose text some bytes are. Where there is none, the answer is how the run ends.
 fn verified_code(alloc: Global, bytes: &[u8]) -> Result<Verified, Ending>
+    requires { length bytes.now ≤ MOST_PROGRAM_BYTES }
+    ensures { ReadsCode bytes.now result }
 {
     let code = match read_code(alloc, bytes) {
         Ok(code) => code,
