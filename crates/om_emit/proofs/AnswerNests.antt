@@ -1,5 +1,5 @@
 -- Sums over the indices of several things, one inside the other, and their order.
-use Rattle.std.proofs.Common.{◌≡◌, ℕ, List, [], ◌∷◌, map, Bool, true, false, inl, inr, refl, ap, ap₂, sym, subst, ◌∙◌, arith, true≢false}
+use Rattle.std.proofs.Common.{◌≡◌, ℕ, suc, List, [], ◌∷◌, length, map, Bool, true, false, inl, inr, refl, ap, ap₂, sym, subst, ◌∙◌, arith, true≢false}
 use Rattle.std.specs.Prelude.{◌==◌, if◌then◌else◌}
 use Rattle.std.proofs.lemmas.Bool.Decides.{nat_tests}
 use mathlib.Core.Path.{fun_ext}
@@ -77,8 +77,10 @@ module _ {E : Type 0} (o : Ops E) (l : Laws o) {X : Type 0} (key : X → ℕ) (i
       ∙ assigned-reordered m (λ k. k) (λ h. f' (map (λ x. h (key x)) ys)) d
       ∙ sym (nest-assigned ys (λ k. k) f' (different-reordered (map key xs) (map key ys) (reordered-map key m) d))
 
-  pub nest-ext : (xs : List X) (f f' : List ℕ → E) → ((is : List ℕ) → f is ≡ f' is) → nest xs f ≡ nest xs f'
-  nest-ext xs f f' e = ap (nest xs) (fun_ext e)
+  -- what is summed is asked for lists of so many indices alone
+  pub nest-ext : (xs : List X) (f f' : List ℕ → E) → ((is : List ℕ) → length is ≡ length xs → f is ≡ f' is) → nest xs f ≡ nest xs f'
+  nest-ext [] f f' e = e [] refl
+  nest-ext (x ∷ xs) f f' e = sum_over-ext o (indices x) _ _ (λ i. ap (o.times (weight x i)) (nest-ext xs (λ is. f (i ∷ is)) (λ is. f' (i ∷ is)) (λ is h. e (i ∷ is) (ap suc h))))
 
   -- a factor goes inside
   pub times-nest : (a : E) (xs : List X) (f : List ℕ → E) → o.times a (nest xs f) ≡ nest xs (λ is. o.times a (f is))
