@@ -45,7 +45,7 @@ module _ {E : Type 0} (o : Ops E) where
   abbrev pub weight_in : ℕ → EnteringWave E → ℕ → E
   weight_in n q = (summand_in n q.wave).weight
 
-  abbrev one_if_open : Option (Wave E) → ℕ
+  abbrev pub one_if_open : Option (Wave E) → ℕ
   one_if_open None = 1
   one_if_open (Some w) = 0
 

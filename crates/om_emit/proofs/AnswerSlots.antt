@@ -14,7 +14,7 @@ use Rattle.om_code.specs.Contents.{EnteringWave, waves_in_slots}
 use Rattle.om_code.specs.Vertices.{part_of}
 use Rattle.om_machine.proofs.Each.{Each, each-reordered}
 
-map-map : {A B C : Type 0} (f : A → B) (g : B → C) (xs : List A) → map g (map f xs) ≡ map (λ x. g (f x)) xs
+pub map-map : {A B C : Type 0} (f : A → B) (g : B → C) (xs : List A) → map g (map f xs) ≡ map (λ x. g (f x)) xs
 map-map f g [] = refl
 map-map f g (x ∷ xs) = ap (λ ys. g (f x) ∷ ys) (map-map f g xs)
 
