@@ -98,7 +98,7 @@ open-more o (q ∷ qs) h = ((λ e. let one = ap (one_if_open o) e in absurd (ome
 
 module _ {E : Type 0} (o : Ops E) (l : Laws o) where
   -- the indices of a wave are those of its field
-  wave-sum : (spin : Spin) (b : Bool) (w : ℕ → E) (f : ℕ → E)
+  pub wave-sum : (spin : Spin) (b : Bool) (w : ℕ → E) (f : ℕ → E)
       → sum_over o (wave_indices (wave_of (kind_of_spin spin b) w)) (λ i. o.times (component (wave_of (kind_of_spin spin b) w) i) (f i)) ≡ sum_over o (structures.indices_of spin) (λ i. o.times (w i) (f i))
   wave-sum Scalar b w f = refl
   wave-sum Vector b w f = refl
