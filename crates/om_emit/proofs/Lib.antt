@@ -19,3 +19,4 @@ pub mod CodeSums
 pub mod EmittedSums
 pub mod NodeFine
 pub mod DenEdges
+pub mod HeldFinds
