@@ -25,7 +25,7 @@ use Rattle.om_code.specs.Slots.{nothing, held_at, is_gathering, is_ready, nodes_
 use Rattle.om_code.proofs.PlacedRuns.{put_here, put_elsewhere}
 
 -- what is held later takes the place of what was held earlier
-pub later : Held → Held → Held
+unfoldable pub later : Held → Held → Held
 later x y = y
 
 pub and_both : (a b : Bool) → a ≡ true → b ≡ true → (a && b) ≡ true
@@ -41,7 +41,7 @@ helds_of xs = map (λ x. x.1) xs
 
 module _ (c : Code) where
   -- what a vertex makes of what its branches hold
-  pub fused_held : ℕ → List Held → Held
+  unfoldable pub fused_held : ℕ → List Held → Held
   fused_held vertex hs = record {
     phase = Gathering;
     legs = union_of 0 hs;
@@ -49,7 +49,7 @@ module _ (c : Code) where
   }
 
   -- what the instructions make of what the slots hold
-  pub held_meaning : Meaning Held (Unit {0})
+  unfoldable pub held_meaning : Meaning Held (Unit {0})
   held_meaning = record {
     loaded = λ leg. record { phase = Ready; legs = set_of_one leg; field = field_of_leg c leg };
     fused = λ minus vertex choice hs. fused_held vertex hs;
@@ -119,7 +119,7 @@ module _ (c : Code) where
   keep_placed plan (x ∷ xs) [] h = absurd h
   keep_placed plan (x ∷ xs) (f ∷ fs) h = (keeps_placed plan x f h.0, keep_placed plan xs fs h.1)
 
-  pub step : Instr → Step Held (Unit {0})
+  unfoldable pub step : Instr → Step Held (Unit {0})
   step x = step_of held_meaning (op_of x)
 
   -- the slots show the state of a register machine
@@ -173,7 +173,7 @@ module _ (c : Code) where
   shows_act st s (Key flow minus vertex choice b) l q = record { holds = q.holds; gathers = q.gathers; slots = q.slots }
 
   -- the branches of a vertex hold what was found
-  looked : (s : State Held (Unit {0})) (ks : List ℕ) → helds_of (map (look s) ks) ≡ map s.values ks
+  pub looked : (s : State Held (Unit {0})) (ks : List ℕ) → helds_of (map (look s) ks) ≡ map s.values ks
   looked s [] = refl
   looked s (k ∷ ks) = ap (λ xs. s.values k ∷ xs) (looked s ks)
 

@@ -20,3 +20,5 @@ pub mod EmittedSums
 pub mod NodeFine
 pub mod DenEdges
 pub mod HeldFinds
+pub mod HeldNodes
+pub mod SplitHelds

@@ -1,5 +1,5 @@
-use Rattle.om_emit.proofs.HeldFinds.{finds_keep}
+use Rattle.om_emit.proofs.SplitHelds.{shared_out}
 use Rattle.om_emit.proofs.laws.codes_are_verified.Goals as goal
 
 pub returns : goal.returns
-returns c = ?
+returns c m p formed is g canonical few_nodes few_flows code is_code = ?
