@@ -22,3 +22,5 @@ pub mod DenEdges
 pub mod HeldFinds
 pub mod HeldNodes
 pub mod SplitHelds
+pub mod GraphHelds
+pub mod DenPlaces
