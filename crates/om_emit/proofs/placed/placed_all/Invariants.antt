@@ -1,0 +1,7 @@
+use Rattle.std.proofs.Common.{◌≡◌, map, take}
+use Rattle.om_emit.specs.Planning.{slot_in_plan}
+use Rattle.om_code.specs.Ops.{op_of, placed_op}
+use Rattle.om_emit.proofs.placed.placed_all.Given as goal
+
+abbrev pub invariant-loop-instr : goal.invariant-loop-instr
+invariant-loop-instr l = map op_of l.list ≡ map (placed_op (slot_in_plan l.plan)) (map op_of (take l.instr-index l.instrs))

@@ -1,0 +1,71 @@
+//! The code of a canonical graph.
+ghost use Rattle.std.specs.Prelude.{◌≡◌, map, IfOk};
+ghost use Rattle.om_model.specs.ProcessOf.{IsProcessOf};
+ghost use Rattle.om_model.specs.WellFormed.{IsWellFormed};
+ghost use Rattle.om_graph.specs.Reactions.{reaction_of};
+ghost use Rattle.om_keystone.specs.CanonicalGraph.{IsCanonicalOf};
+ghost use Rattle.om_emit.specs.GraphCode.{IsCodeOf};
+
+use crate::dens::{edges_above, listed};
+use crate::placed::placed_all;
+use crate::registers::register_code;
+use crate::slot_plan::first_fit;
+use om_code::{Code, Verified};
+use om_keystone::Pruned;
+use om_model::{Model, Process};
+use om_ring::{List, NoMemory};
+use std::alloc::Global;
+
+/// How many nodes and flows a graph may have, so that each has a number in a program.
+pub const MOST_NUMBERED: usize = 2_147_483_647;
+
+/// The code of the canonical graph of a process, in version 2: the loads of its legs, the terms of each inner node in order with its
+/// propagator behind them, and its keystone terms, with the slots of the first-fit plan in place of its registers.
+///
+/// It keeps all rules of programs, so nothing is verified here. Takes time n log n in the graph. `NoMemory` is also the answer where the
+/// graph has more nodes or flows than a program has numbers for, far more than `build` lets through.
+pub fn emit(
+    alloc: Global,
+    model: &Model,
+    process: &Process,
+    pruned: &Pruned,
+) -> Result<Verified, NoMemory>
+    requires accepted { IsWellFormed model.now }
+    requires process { IsProcessOf model.now process.now }
+    requires canonical { IsCanonicalOf (reaction_of model.now process.now) pruned.now }
+    ensures code { IfOk result (IsCodeOf model.now process.now pruned.now) }
+{
+    let graph = pruned.graph();
+    let nodes = graph.nodes.as_slice();
+    if nodes.len() > MOST_NUMBERED || graph.flows.len() > MOST_NUMBERED {
+        return Err(NoMemory);
+    }
+    let particles = model.particles.as_slice();
+    let n = process.legs.len() as u8;
+    let edges = edges_above(alloc, particles, n, nodes)?;
+    let dens = listed(alloc, &edges)?;
+    let registers = register_code(alloc, particles, n, dens.as_slice(), graph)?;
+    let plan = first_fit(alloc, registers.as_slice(), nodes.len() as u32)?;
+    let instrs = placed_all(alloc, registers.as_slice(), &plan)?;
+    let code = Code {
+        version: 2,
+        model: model.copy(alloc)?,
+        legs: fields_of(alloc, process)?,
+        flows: graph.flows.copy(alloc)?,
+        dens,
+        slots: plan.count(),
+        instrs,
+    };
+    Ok(Verified::of(code))
+}
+
+/// The field of each leg.
+fn fields_of(alloc: Global, process: &Process) -> Result<List<u16>, NoMemory>
+    ensures { IfOk result (λ fields. fields ≡ map (λ leg. leg.field) process.now.legs) }
+{
+    let mut fields = List::new(alloc);
+    for leg in process.legs.as_slice() {
+        fields.push(leg.field)?;
+    }
+    Ok(fields)
+}
