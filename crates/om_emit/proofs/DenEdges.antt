@@ -18,7 +18,7 @@ use Rattle.om_ring.proofs.Members.{of_filter, in_filter}
 use Rattle.om_emit.proofs.DensInOrder.{dens_total}
 
 -- dens that compare alike are one
-same_den : (a b : Den) → den_order a b ≡ Equal → a ≡ b
+pub same_den : (a b : Den) → den_order a b ≡ Equal → a ≡ b
 same_den a b h = ap (λ (p : ℕ × ℕ). let d : Den = record { legs = p.0; field = p.1 } in d) (exact_pairs nat_cmp nat_cmp exact_unsigned exact_unsigned (a.legs, a.field) (b.legs, b.field) h)
 
 -- an insertion

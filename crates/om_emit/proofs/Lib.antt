@@ -19,3 +19,8 @@ pub mod CodeSums
 pub mod EmittedSums
 pub mod NodeFine
 pub mod DenEdges
+pub mod HeldFinds
+pub mod HeldNodes
+pub mod SplitHelds
+pub mod GraphHelds
+pub mod DenPlaces

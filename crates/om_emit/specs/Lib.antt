@@ -5,3 +5,4 @@ pub mod GraphWalk
 pub mod NodeContents
 pub mod EdgesAbove
 pub mod Laws
+pub mod CodesVerified
