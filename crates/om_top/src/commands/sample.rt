@@ -22,6 +22,11 @@ pub(crate) fn sample<R: Ring<Mark = L>, O: Sink, L>(
     ensures calls { (n : ℕ) × SampleMayCall (R.ops ring.now) seed legs n × (steps.new ≤ steps.old + n * R.cost ring.now) }
 {
     // Here sum_sample and write_sample of om_sample are called.
-    let _ = (alloc, ring, seed, legs, out, steps);
+    let _ = alloc;
+    let _ = ring;
+    let _ = seed;
+    let _ = legs;
+    let _ = &*out;
+    let _ = &*steps;
     Ending::NoMemory
 }
