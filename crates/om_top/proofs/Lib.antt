@@ -1,1 +1,5 @@
 pub mod Short
+pub mod Files
+pub mod ProgramLines
+pub mod CallBounds
+pub mod Values
