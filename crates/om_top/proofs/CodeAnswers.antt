@@ -18,7 +18,7 @@ use Rattle.om_machine.specs.Loaded.{answer_of}
 use Rattle.om_machine.specs.Machines.{LoadedCode, SameTable, table_of}
 use Rattle.om_machine.specs.declared.answer.Outcome.{Outcome}
 use Rattle.om_event.specs.Events.{Legs}
-use Rattle.om_event.specs.Kinds.{HasKinds, kind_named}
+use Rattle.om_event.specs.Kinds.{AreKindsOf, HasKinds, kind_named}
 use Rattle.om_event.specs.Next.{Enters, Reading, incoming_of}
 use Rattle.om_event.specs.declared.kind.WaveKind.{WaveKind}
 use Rattle.om_event.specs.declared.kind.WaveKind.TheVariants.{Scalar, Row, Column, Vector}
@@ -61,6 +61,13 @@ module _ {E : Type 0} (o : Ops E) (show : E → List ℕ) where
       subst (λ (x : Code). OwesMeaning o show x number legs text) same
       (made', answer_with m.code.flows (answer_of outcome m.sums), (answer_of outcome m.sums, meaning', refl), refl)
 
+pub more_calls : (a b each cost : ℕ) → b ≤ a → b * each * cost ≤ a * each * cost
+more_calls a b each cost h = mul-le-mul_right cost (mul-le-mul_right each h)
+
+-- as many kinds as legs
+pub count_kinds : (particles : List Particle) (fields : List ℕ) → length (kinds_of particles fields) ≡ length fields
+count_kinds particles fields = length-map fields (λ f. wave_kind (kind_of_field particles f))
+
 -- the calls of an event
 module _ (begun k part legs cost initial before now : ℕ) (so_far : before ≤ initial + k * (part + 32 * legs) * cost) where
   -- read and answered
@@ -79,7 +86,7 @@ pub record IsReading {E : Type 0} (first now : LoadedCode E) (r : Reading) (k : 
   pub code : now.code ≡ first.code
   pub factors : now.factors ≡ first.factors
   pub masses : now.masses ≡ first.masses
-  pub kinds : r.kinds ≡ kinds_of first.code.model.particles first.code.legs
+  pub are : AreKindsOf first.code r.kinds
   pub live : r.live ≡ true
   pub given : r.given ≡ k
   pub made : HasKinds r.kinds e

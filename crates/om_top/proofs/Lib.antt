@@ -5,3 +5,4 @@ pub mod CallBounds
 pub mod Values
 pub mod Streams
 pub mod CodeAnswers
+pub mod StreamSteps
