@@ -18,7 +18,6 @@ pub mod ModelWords
 pub mod ModelWordsAgain
 pub mod LinesAgain
 pub mod NamedKinds
-pub mod NumeralsFit
 pub mod OneLine
 pub mod Outcomes
 pub mod ProgramAgain

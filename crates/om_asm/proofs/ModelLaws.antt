@@ -25,7 +25,8 @@ use Rattle.om_asm.proofs.WordLaws.{bind_some}
 use Rattle.om_asm.proofs.RowLaws.{bind_ok, formed_ok}
 use Rattle.std.specs.List.{AllByRecursion}
 use Rattle.om_legs.specs.Legs.{IsLegSet}
-use Rattle.om_asm.specs.InRange.{NumeralFits, ParticleInRange}
+use Rattle.om_ring.specs.Numerals.{NumeralFits}
+use Rattle.om_asm.specs.InRange.{ParticleInRange}
 use Rattle.om_asm.specs.FirstBad.{IsName, IsReadableProduct}
 use Rattle.om_asm.proofs.ModelWords.{Spells, IsReadableSet, pick, spin_spells, colour_spells, name_spells, product_spells, set_spells, field_spells}
 

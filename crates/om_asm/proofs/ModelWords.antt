@@ -31,10 +31,10 @@ use Rattle.om_asm.specs.Lists.{list_from}
 use Rattle.om_asm.specs.Reading.{name_of, canonical, factor_of, product_of, legs_from, spelled_set, set_of}
 use Rattle.om_model.specs.Words.{colour_of_word}
 use Rattle.om_asm.specs.Flows.{ends_of_line, ends_from, no_ends, flow_with, flow_of}
-use Rattle.om_asm.specs.InRange.{NumeralFits}
+use Rattle.om_ring.specs.Numerals.{NumeralFits}
 use Rattle.om_asm.specs.FirstBad.{IsName, IsReadableProduct}
 use Rattle.om_model.proofs.WordLaws.{words_are_read}
-use Rattle.om_asm.proofs.NumeralsFit.{numeral_fits}
+use Rattle.om_ring.proofs.NumeralsFit.{numeral_fits}
 use Rattle.om_asm.proofs.SpeltLemmas.{same_bytes, number_empty}
 use Rattle.om_asm.proofs.WordLaws.{bind_some, took, ended, number_law}
 

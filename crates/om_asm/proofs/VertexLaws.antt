@@ -20,7 +20,8 @@ use Rattle.om_asm.specs.Vertices.{known_fields, vertex_row}
 use Rattle.om_asm.proofs.WordLaws.{number_law}
 use Rattle.om_asm.proofs.RowLaws.{bind_ok, formed_ok}
 use Rattle.std.specs.List.{AllByRecursion}
-use Rattle.om_asm.specs.InRange.{NumeralFits, VertexInRange}
+use Rattle.om_ring.specs.Numerals.{NumeralFits}
+use Rattle.om_asm.specs.InRange.{VertexInRange}
 use Rattle.om_asm.specs.FirstBad.{IsReadableProduct}
 use Rattle.om_asm.proofs.ModelWords.{structure_spells}
 use Rattle.om_asm.proofs.ModelLaws.{said, some_slot, ok_same, SlotWord}

@@ -17,7 +17,7 @@ use Rattle.om_model.specs.Name.{is_name, is_name_byte}
 use Rattle.om_program_text.specs.ProgramText.{Words}
 use Rattle.om_program_text.specs.Words.{place_word, sign_word, product_word, set_word}
 use Rattle.om_model.specs.Words.{spin_word, structure_word, colour_word}
-use Rattle.om_asm.specs.InRange.{NumeralFits}
+use Rattle.om_ring.specs.Numerals.{NumeralFits}
 use Rattle.om_legs.specs.Legs.{legs_of, every_leg, holds}
 use Rattle.om_asm.proofs.Visible.{IsVisible, visible_append, decimal_visible}
 

@@ -11,7 +11,8 @@ use Rattle.om_code.specs.Plain.{IsPlain, IsProduct}
 use Rattle.om_program_text.specs.ProgramText.{Words, program_lines}
 use Rattle.om_program_text.specs.Words.{product_word, set_word}
 use Rattle.om_model.specs.Words.{structure_word}
-use Rattle.om_asm.specs.InRange.{NumeralFits, CodeInRange}
+use Rattle.om_ring.specs.Numerals.{NumeralFits}
+use Rattle.om_asm.specs.InRange.{CodeInRange}
 use Rattle.om_asm.specs.declared.fault.AsmKind.{AsmKind}
 use Rattle.om_asm.specs.declared.fault.AsmKind.TheVariants.{Name}
 
