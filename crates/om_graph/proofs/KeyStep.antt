@@ -29,7 +29,7 @@ use Rattle.om_graph.specs.Tuples.{met_over_all}
 use Rattle.om_graph.specs.Vertices.{Reaction, closed_minus, fields_of, fusion, is_outward, keeps_edges}
 use Rattle.om_graph.proofs.Adding.{adding_is_step}
 use Rattle.om_graph.proofs.FoundMembers.{meets_closed}
-use Rattle.om_graph.proofs.Lists.{in_map}
+use Rattle.om_ring.proofs.Members.{in_map}
 use Rattle.om_graph.proofs.Meetable.{can_close}
 use Rattle.om_graph.proofs.MeetingFields.{same_count}
 use Rattle.om_graph.proofs.Numbers.{found_order}

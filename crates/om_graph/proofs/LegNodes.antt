@@ -29,7 +29,8 @@ use Rattle.om_graph.specs.SetSearch.{set_search, leg_keys, leg_state, outward_se
 use Rattle.om_graph.specs.TreeKeys.{IsReaction}
 use Rattle.om_graph.specs.Vertices.{Reaction, Fuses, fusion, leg_key}
 use Rattle.om_graph.proofs.KeysOfSides.{leg_subtree, side_of, outward_of}
-use Rattle.om_graph.proofs.Lists.{in_map, in_mapped, before_all}
+use Rattle.om_ring.proofs.Members.{in_map, in_mapped}
+use Rattle.om_graph.proofs.Lists.{before_all}
 use Rattle.om_graph.proofs.Adding.{interned_behind}
 use Rattle.om_graph.proofs.NodeRanges.{none_stand_last}
 use Rattle.om_graph.proofs.Orders.{key_order}

@@ -31,7 +31,7 @@ use Rattle.om_graph.specs.Tuples.{met_over_all}
 use Rattle.om_graph.specs.Vertices.{Reaction, fields_of, fusion, fused_minus, is_outward, keeps_edges}
 use Rattle.om_graph.proofs.Adding.{adding_is_step}
 use Rattle.om_graph.proofs.FoundMembers.{meets_fused}
-use Rattle.om_graph.proofs.Lists.{in_map, in_mapped}
+use Rattle.om_ring.proofs.Members.{in_map, in_mapped}
 use Rattle.om_graph.proofs.Meetable.{can_meet}
 use Rattle.om_graph.proofs.MeetingFields.{same_count}
 use Rattle.om_graph.proofs.NodeRanges.{none_stand_last}

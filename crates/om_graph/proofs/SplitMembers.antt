@@ -16,7 +16,7 @@ use Rattle.om_model.specs.Diagram.{all_in}
 use Rattle.om_model.specs.KeystoneForm.{HasFields}
 use Rattle.om_model.proofs.Counting.{both, times_of_in}
 use Rattle.om_model.proofs.EdgesUncut.{both_true}
-use Rattle.om_model.proofs.Membership.{in_filter}
+use Rattle.om_ring.proofs.Members.{in_filter, in_left, in_right, in_either}
 use Rattle.om_graph.specs.declared.Key.{Key}
 use Rattle.om_graph.specs.Graph.{AreClosings}
 use Rattle.om_graph.specs.Loops.{fused_key, closed_flow}
@@ -26,7 +26,6 @@ use Rattle.om_graph.specs.SetSearch.{splits_of, uncut_splits, keystone_splits, c
 use Rattle.om_graph.specs.Splits.{IsSplitting}
 use Rattle.om_graph.specs.Vertices.{Reaction, Fuses, Closes, fusion, is_outward, keeps_edges, sets_of, fields_of, fused_slots, slot_partials, hole_of, union_of}
 use Rattle.om_graph.proofs.FoundMembers.{MakesKey, MakesFlow, meets_fused, meets_closed}
-use Rattle.om_graph.proofs.Lists.{in_left, in_right, in_either}
 use Rattle.om_graph.proofs.MeetingFields.{fills_slot}
 use Rattle.om_graph.proofs.Orders.{key_order}
 use Rattle.om_graph.proofs.SplitUnions.{union_is}

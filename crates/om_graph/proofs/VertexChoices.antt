@@ -4,7 +4,7 @@ use Rattle.std.proofs.lemmas.Bool.{ltb-true, ltb-false}
 use Rattle.om_ring.specs.Members.{In, Different}
 use Rattle.om_graph.specs.Graph.{Found}
 use Rattle.om_graph.specs.Loops.{counts}
-use Rattle.om_graph.proofs.Lists.{in_left, in_right}
+use Rattle.om_ring.proofs.Members.{in_left, in_right}
 use Rattle.om_graph.proofs.MeetingLists.{counts_in}
 use Rattle.om_graph.proofs.Tuples.{in_flat_map, from_flat_map, different_append, different_flat_map}
 

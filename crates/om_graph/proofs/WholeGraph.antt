@@ -20,7 +20,7 @@ use Rattle.om_graph.specs.SetWalk.{CanCloseAll, CanWalk, HasClosed, HasKeySign, 
 use Rattle.om_graph.specs.TreeKeys.{IsReaction}
 use Rattle.om_graph.specs.Vertices.{Reaction, closed_minus, fused_minus, fusion}
 use Rattle.om_graph.proofs.KeyStep.{numbered-length}
-use Rattle.om_graph.proofs.Lists.{in_mapped}
+use Rattle.om_ring.proofs.Members.{in_mapped}
 use Rattle.om_graph.proofs.LegNodes.{all_sets, leg_sets, legs_done, sets_ready}
 use Rattle.om_graph.proofs.Orders.{flow_order}
 use Rattle.om_graph.proofs.SetNodes.{in_by_number}

@@ -17,7 +17,7 @@ use Rattle.om_model.specs.Answer.{Answer, same_flow, HasPole, flows, value_of_fl
 use Rattle.om_model.specs.Diagrams.{AreDiagrams}
 use Rattle.om_model.proofs.AllDiagrams.{only_one}
 use Rattle.om_model.specs.Answer.Answer.{unbalanced, pole, values}
-use Rattle.om_model.proofs.Membership.{in_map, in_filter}
+use Rattle.om_ring.proofs.Members.{in_map, in_filter, map_map, different_map, in_mapped, different_filter}
 use Rattle.om_model.proofs.Rising.{rising_unique, rising_of_rising, in_rising_of, numbers_order}
 use Rattle.om_model.specs.Opened.{Opened}
 use Rattle.om_graph.specs.Fusion.{Fusion, HasKey}
@@ -29,12 +29,9 @@ use Rattle.om_keystone.proofs.ModelRules.{KeyView, model_rules, AreSigns, ShowsP
 use Rattle.om_keystone.specs.EdgeRules.{name_of}
 use Rattle.om_keystone.proofs.ModelRules.IsJoin.{is_join}
 use Rattle.om_keystone.proofs.KeyedAnswer.{IsCanonical, same_by, terms_of, keys_of, IsInner, AreWaves, HasKeyedPole, graph_values, KeyedAnswers}
-use Rattle.om_keystone.proofs.Members.{map_map, different_map}
-use Rattle.om_graph.proofs.Lists.{in_mapped}
 use Rattle.om_keystone.proofs.Standing.{standing, stood}
 use Rattle.om_keystone.proofs.Reached.{prune_is_exact, seen_here}
 use Rattle.om_keystone.proofs.Grown.{same_by_is, is_same_by}
-use Rattle.om_keystone.proofs.Members.{different_filter}
 use Rattle.om_keystone.proofs.NodeSums.{opened_exist, flow_is_sum, minus_zero}
 use Rattle.om_keystone.proofs.ModelWaves.{name_is, signed_wave, are_tree_waves, opened_sum}
 

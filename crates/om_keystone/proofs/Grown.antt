@@ -7,15 +7,13 @@ use Rattle.om_model.specs.Tree.Tree.{leaf, join}
 use Rattle.om_model.specs.Tree.Branches.{none, and}
 use Rattle.om_model.specs.Diagram.{upto}
 use Rattle.om_model.specs.Order.{IsOrder}
-use Rattle.om_model.proofs.Membership.{in_left, in_right, in_either, in_map, in_flat_map, in_filter}
+use Rattle.om_ring.proofs.Members.{in_left, in_right, in_either, in_map, in_flat_map, in_filter, different_filter, from_flat_map, different_append, different_map, different_flat_map, in_mapped}
 use Rattle.om_model.proofs.Counting.{in_upto}
 use Rattle.om_graph.specs.Fusion.{Fusion, HasKey, HaveKeys}
 use Rattle.om_graph.proofs.SetNodes.{nodes_of}
 use Rattle.om_keystone.specs.InDiagrams.{TermOf}
 use Rattle.om_keystone.proofs.Reaching.{IsPossibleTerm, IsSettled}
 use Rattle.om_keystone.proofs.KeyedWaves.{AreTermsOf}
-use Rattle.om_keystone.proofs.Members.{different_filter, from_flat_map, different_append, different_map, different_flat_map}
-use Rattle.om_graph.proofs.Lists.{in_mapped}
 use Rattle.om_keystone.proofs.Reached.{same_keys}
 
 from_upto : (x m : ℕ) → 0 < x → x ≤ m → In x (upto m)

@@ -16,7 +16,7 @@ use Rattle.om_model.specs.Order.{numbers_lt}
 use Rattle.om_model.specs.Tree.{legs}
 use Rattle.om_model.specs.Tree.Tree.{leaf}
 use Rattle.om_model.specs.FermionLines.{Kinds}
-use Rattle.om_model.proofs.Membership.{in_map}
+use Rattle.om_ring.proofs.Members.{in_map}
 use Rattle.om_model.proofs.LegSets.{has_leg_set, leg_set_of_leaf}
 use Rattle.om_graph.specs.declared.Graph.{Graph}
 use Rattle.om_graph.specs.declared.Key.{Key}

@@ -3,14 +3,13 @@ use Rattle.std.proofs.Common.{◌≡◌, ℕ, suc, List, [], ◌∷◌, map, fil
 use Rattle.std.proofs.lemmas.Option.{same_Some}
 use Rattle.om_ring.specs.Members.{In}
 use Rattle.om_model.specs.Order.{IsOrder}
-use Rattle.om_model.proofs.Membership.{in_map, in_filter}
+use Rattle.om_ring.proofs.Members.{in_map, in_filter, map_map}
 use Rattle.om_colour.specs.declared.Flow.{Flow}
 use Rattle.om_graph.specs.declared.Graph.{Graph}
 use Rattle.om_graph.specs.declared.Key.{Key}
 use Rattle.om_graph.specs.declared.KeyTerm.{KeyTerm}
 use Rattle.om_graph.specs.declared.Term.{Term}
 use Rattle.om_graph.specs.Fusion.{Fusion}
-use Rattle.om_keystone.proofs.Members.{map_map}
 use Rattle.om_keystone.proofs.Reaching.{IsSettled}
 use Rattle.om_graph.specs.Graph.{at_numbers, Numbered, IsGraph}
 use Rattle.om_keystone.specs.CanonicalGraph.{IsCanonicalGraph, HasSigns}

@@ -1,7 +1,7 @@
 use Rattle.std.proofs.Common.{◌∙◌, map, sym, arith}
 use Rattle.om_keystone.specs.Pruning.{renumbered_key}
 use Rattle.om_graph.specs.Possible.{unsigned_key}
-use Rattle.om_keystone.proofs.Members.{map_map}
+use Rattle.om_ring.proofs.Members.{map_map}
 use Rattle.om_keystone.proofs.Steps.{mapped_end}
 use Rattle.om_keystone.proofs.pruned.renumbered_keys.Goals as goal
 
