@@ -69,7 +69,7 @@ pub choose_differ : {K : Type 0} (g : K → List Tree) (ks : List K) → ((k : K
 unfolding choose head tail
 choose_differ g [] d = ((λ i. i), tt)
 choose_differ g (k ∷ ks) d = different_flat_map (λ t. map (and t) (choose g ks)) (g k) (d k (inl refl))
-    (λ t i. different_map (and t) (choose g ks) (choose_differ g ks (λ j a. d j (inr a))) (λ x y _ _ e. ap tail e))
+    (λ t i. different_map (and t) (choose g ks) (λ x y _ _ e. ap tail e) (choose_differ g ks (λ j a. d j (inr a))))
     (λ t u bs _ _ i j. let a = in_mapped (and t) bs (choose g ks) i in let b = in_mapped (and u) bs (choose g ks) j in ap head (sym a.2 ∙ b.2))
 
 module _ {K F : Type 0} (p : Fusion K F) where
@@ -172,12 +172,12 @@ module _ {K F : Type 0} (p : Fusion K F) (lt : K → K → Bool) (order : IsOrde
   grown_differ zero k a h = tt
   grown_differ (suc n) k a h =
       different_append (map leaf (legs_with p lt terms k)) (flat_map (joins p.field (grown p lt terms n)) (terms k))
-      (different_map leaf (legs_with p lt terms k) (legs_differ k) (λ i j _ _ e. ap leg_of e))
+      (different_map leaf (legs_with p lt terms k) (λ i j _ _ e. ap leg_of e) (legs_differ k))
       (different_flat_map (joins p.field (grown p lt terms n)) (terms k) (are.once k)
       (λ x i. let q = (are.members k a x).0 i in
       different_map (join (p.field x.node) x.vertex x.choice) (choose (grown p lt terms n) x.branches)
-      (choose_differ (grown p lt terms n) x.branches (λ b j. grown_differ n b (here x b q j) (lesser n x b q.0 (up x q) j)))
-      (λ bs cs _ _ e. ap branches_of e))
+      (λ bs cs _ _ e. ap branches_of e)
+      (choose_differ (grown p lt terms n) x.branches (λ b j. grown_differ n b (here x b q j) (lesser n x b q.0 (up x q) j))))
       one)
       (λ t i j.
       let b = in_mapped leaf t (legs_with p lt terms k) i in

@@ -169,8 +169,8 @@ module _ {E : Type 0} (o : Ops E) (l : Laws o) where
       opened_differ =
           different_flat_map (opened_by most) ys keys.once
           (λ y m. different_map (λ bs. let a : Opened = record { vertex = y.vertex; choice = y.choice; parts = bs } in a) (choose (grown p lt terms most) y.branches)
-          (choose_differ (grown p lt terms most) y.branches (λ b j. grown_differ p lt order rank ok kept terms are most b (keys.branches y b m j) (below b (keys.branches y b m j))))
-          (λ bs cs _ _ e. ap (λ (a : Opened). a.parts) e))
+          (λ bs cs _ _ e. ap (λ (a : Opened). a.parts) e)
+          (choose_differ (grown p lt terms most) y.branches (λ b j. grown_differ p lt order rank ok kept terms are most b (keys.branches y b m j) (below b (keys.branches y b m j)))))
           (λ y z a m n i j.
           let u = in_mapped (λ bs. let a : Opened = record { vertex = y.vertex; choice = y.choice; parts = bs } in a) a (choose (grown p lt terms most) y.branches) i in
           let t = in_mapped (λ bs. let a : Opened = record { vertex = z.vertex; choice = z.choice; parts = bs } in a) a (choose (grown p lt terms most) z.branches) j in
