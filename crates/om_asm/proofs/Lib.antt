@@ -28,7 +28,6 @@ pub mod ReadingLists
 pub mod ReadingRows
 pub mod Registers
 pub mod RowLaws
-pub mod SetsAgain
 pub mod SlotLaws
 pub mod SlotsAgain
 pub mod SpeltLemmas

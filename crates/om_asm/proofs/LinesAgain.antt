@@ -16,17 +16,18 @@ use Rattle.om_model.specs.FieldNames.{field_name}
 use Rattle.om_asm.specs.declared.fault.AsmKind.{AsmKind}
 use Rattle.om_asm.specs.InRange.{ParticleInRange}
 use Rattle.om_program_text.specs.ProgramText.{Words}
-use Rattle.om_program_text.specs.Words.{product_word, set_word}
+use Rattle.om_program_text.specs.Words.{product_word}
+use Rattle.om_model.specs.LegSetText.{leg_set_word, leg_set_of_word}
 use Rattle.om_model.specs.Words.{spin_word, colour_word}
 use Rattle.om_asm.specs.Lines.{word_by, no_more, next_word}
 use Rattle.om_asm.specs.Rows.{formed}
 use Rattle.om_ring.specs.ResultSteps.{◌>>=◌}
-use Rattle.om_asm.specs.Reading.{name_of, product_of, set_of, named, leg_row, den_row, particle_row}
+use Rattle.om_asm.specs.Reading.{name_of, product_of, named, leg_row, den_row, particle_row}
 use Rattle.om_model.specs.Words.{colour_of_word}
 use Rattle.om_asm.proofs.SpeltLemmas.{same_bytes}
 use Rattle.om_asm.proofs.ModelWords.{pick}
 use Rattle.om_asm.proofs.ModelWordsAgain.{name_again, spin_again, colour_again, product_again, named_again}
-use Rattle.om_asm.proofs.SetsAgain.{set_again}
+use Rattle.om_asm.proofs.ModelWordsAgain.{set_again}
 use Rattle.om_asm.proofs.WordsAgain.{word_again}
 
 -- what means a field is a name
@@ -55,10 +56,10 @@ say read w x rest f e = ap (λ o. formed o >>= f) (word_again read w x rest e)
 abbrev a_den : ℕ → ℕ → Result Den AsmKind
 a_den set field = Ok (record { legs = set; field = field })
 
-pub den_again : (ps : List Particle) (d : Den) → AllByRecursion ParticleInRange ps → IsLegSet d.legs → IsPlainDen ps d → den_row ps (set_word d.legs ∷ field_name ps d.field ∷ []) ≡ Ok d
+pub den_again : (ps : List Particle) (d : Den) → AllByRecursion ParticleInRange ps → IsLegSet d.legs → IsPlainDen ps d → den_row ps (leg_set_word d.legs ∷ field_name ps d.field ∷ []) ≡ Ok d
 unfolding den_row
 den_again ps d h s p =
-    say set_of (set_word d.legs) d.legs (field_name ps d.field ∷ []) (λ set. formed (next_word set.1) >>= λ name. formed (no_more name.1) >>= λ _. named ps name.0 >>= λ field. a_den set.0 field) (set_again d.legs s p.legs)
+    say leg_set_of_word (leg_set_word d.legs) d.legs (field_name ps d.field ∷ []) (λ set. formed (next_word set.1) >>= λ name. formed (no_more name.1) >>= λ _. named ps name.0 >>= λ field. a_den set.0 field) (set_again d.legs s p.legs)
     ∙ ap (λ r. r >>= λ field. a_den d.legs field) (field_again ps d.field h p.field)
 
 abbrev a_particle : List ℕ → List ℕ → Spin → List Numeral → List Numeral → List Numeral → Colour → Result Particle AsmKind

@@ -13,12 +13,13 @@ use Rattle.om_model.specs.FieldNames.{field_name}
 use Rattle.om_asm.specs.declared.fault.AsmKind.{AsmKind}
 use Rattle.om_asm.specs.declared.fault.AsmKind.TheVariants.{Grammar}
 use Rattle.om_program_text.specs.ProgramText.{Words, leg_words, den_words, particle_words}
-use Rattle.om_program_text.specs.Words.{product_word, set_word}
+use Rattle.om_program_text.specs.Words.{product_word}
+use Rattle.om_model.specs.LegSetText.{leg_set_word, leg_set_of_word}
 use Rattle.om_model.specs.Words.{spin_word, colour_word}
 use Rattle.om_asm.specs.Lines.{word_by, no_more, next_word}
 use Rattle.om_asm.specs.Rows.{formed}
 use Rattle.om_ring.specs.ResultSteps.{◌>>=◌}
-use Rattle.om_asm.specs.Reading.{name_of, product_of, set_of, known, named, leg_row, den_row, particle_row}
+use Rattle.om_asm.specs.Reading.{name_of, product_of, known, named, leg_row, den_row, particle_row}
 use Rattle.om_model.specs.Words.{colour_of_word}
 use Rattle.om_asm.specs.VertexSlots.{slot_of}
 use Rattle.om_asm.proofs.WordLaws.{bind_some}
@@ -86,13 +87,13 @@ a_den set field = record { legs = set; field = field }
 pub den_found : (ps : List Particle) (words : Words) (d : Den) → den_row ps words ≡ Ok d → (codes "den" ∷ words ≡ den_words ps d) × IsPlainDen ps d × IsLegSet d.legs
 unfolding den_row
 den_found ps words d e =
-    let s = said set_of set_word IsReadableSet set_spells words (λ set. formed (next_word set.1) >>= λ name. formed (no_more name.1) >>= λ _. named ps name.0 >>= λ field. Ok (a_den set.0 field)) d e in
+    let s = said leg_set_of_word leg_set_word IsReadableSet set_spells words (λ set. formed (next_word set.1) >>= λ name. formed (no_more name.1) >>= λ _. named ps name.0 >>= λ field. Ok (a_den set.0 field)) d e in
     let a = some_word s.1 (λ name. formed (no_more name.1) >>= λ _. named ps name.0 >>= λ field. Ok (a_den s.0 field)) d s.4 in
     let n = none_left a.1 (λ _. named ps a.0 >>= λ field. Ok (a_den s.0 field)) d a.3 in
     let b = bind_ok (named ps a.0) (λ field. Ok (a_den s.0 field)) d n.1 in
     let l = named_ok (is_name a.0) ps a.0 b.0 b.1 in
     let same : a_den s.0 b.0 ≡ d = let h = b.2 in cc in
-    let whole = ap (λ (ws : Words). codes "den" ∷ ws) (s.2 ∙ ap (λ (ws : Words). set_word s.0 ∷ ws) (a.2 ∙ ap₂ (λ (v : List ℕ) (vs : Words). v ∷ vs) (sym l.0) n.0)) in
+    let whole = ap (λ (ws : Words). codes "den" ∷ ws) (s.2 ∙ ap (λ (ws : Words). leg_set_word s.0 ∷ ws) (a.2 ∙ ap₂ (λ (v : List ℕ) (vs : Words). v ∷ vs) (sym l.0) n.0)) in
     subst (λ (z : Den). (codes "den" ∷ words ≡ den_words ps z) × IsPlainDen ps z × IsLegSet z.legs) same (whole, record { legs = s.3.0; field = l.1 }, s.3.1)
 
 -- ---- particles

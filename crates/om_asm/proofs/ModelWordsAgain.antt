@@ -25,12 +25,18 @@ use Rattle.om_asm.specs.Reading.{name_of, canonical, factor_of, product_of, know
 use Rattle.om_model.specs.Words.{colour_of_word}
 use Rattle.om_asm.proofs.SpeltLemmas.{bytes_same}
 use Rattle.om_asm.proofs.Visible.{Without, split_join, decimal_without}
+use Rattle.om_legs.specs.Legs.{IsLegSet}
+use Rattle.om_model.specs.LegSetText.{leg_set_of_word, leg_set_word}
+use Rattle.om_model.proofs.LegSetLaws.{leg_sets_are_read}
 
 pub name_again : (n : List ℕ) → is_name n ≡ true → name_of n ≡ Some n
 name_again n h = ap (λ b. cond b (Some n) None) h
 
 pub spin_again : (s : Spin) → spin_of_word (spin_word s) ≡ Some s
 spin_again s = (words_are_read.1 s (spin_word s)).1 refl
+
+pub set_again : (set : ℕ) → IsLegSet set → 1 ≤ set → leg_set_of_word (leg_set_word set) ≡ Some set
+set_again set is some = leg_sets_are_read.0 set is some
 
 pub structure_again : (s : Structure) → structure_of_word (structure_word s) ≡ Some s
 structure_again s = (words_are_read.0 s (structure_word s)).1 refl

@@ -30,12 +30,13 @@ use Rattle.om_asm.proofs.VertexAgain.{vertex_again}
 use Rattle.om_asm.proofs.InstrsAgain.{instrs_again}
 use Rattle.om_asm.proofs.HeadsAgain.{version_again, model_again, line_again, slots_again, end_again, at_place, slots_read, next_number}
 use Rattle.om_asm.proofs.Stopping.{AvoidsLast, at_slots, at_dens, at_flows, at_legs, at_vertices}
+use Rattle.om_code.specs.declared.code.TheConstants.{MOST_PARTICLE_LINES}
 
 -- ---- each kind of rows
 
-all_particles : (count : ℕ) (ps : List Particle) → count + length ps ≤ 32768 → AllByRecursion ParticleInRange ps → AllByRecursion IsPlainParticle ps → AllAgain (λ k w. bytes_eq w (codes "particle") && ltb k 32768) (λ _ words. particle_row words) particle_words count ps
+all_particles : (count : ℕ) (ps : List Particle) → count + length ps ≤ MOST_PARTICLE_LINES → AllByRecursion ParticleInRange ps → AllByRecursion IsPlainParticle ps → AllAgain (λ k w. bytes_eq w (codes "particle") && ltb k MOST_PARTICLE_LINES) (λ _ words. particle_row words) particle_words count ps
 all_particles count [] n h p = tt
-all_particles count (x ∷ xs) n h p = (record { w = codes "particle"; ws = _; line = refl; start = lt-ltb count 32768 (omega (arith, n)); says = particle_again x h.0 p.0 }, all_particles (count + 1) xs (omega (arith, n)) h.1 p.1)
+all_particles count (x ∷ xs) n h p = (record { w = codes "particle"; ws = _; line = refl; start = lt-ltb count MOST_PARTICLE_LINES (omega (arith, n)); says = particle_again x h.0 p.0 }, all_particles (count + 1) xs (omega (arith, n)) h.1 p.1)
 
 all_vertices : (ps : List Particle) (count : ℕ) (vs : List Vertex) → AllByRecursion ParticleInRange ps → AllByRecursion VertexInRange vs → AllByRecursion (IsPlainVertex ps) vs → AllAgain (λ _ w. bytes_eq w (codes "vertex")) (λ _ words. vertex_row ps words) (vertex_words ps) count vs
 all_vertices ps count [] h r p = tt
@@ -112,7 +113,7 @@ module _ (c : Code) where
   vertices_stop = at_legs (by_key (codes "vertex")) (λ _. refl) ps c.legs flow_lines (at_flows (by_key (codes "vertex")) (λ _. refl) c.flows den_lines (at_dens (by_key (codes "vertex")) (λ _. refl) ps c.dens slot_lines (at_slots (by_key (codes "vertex")) (avoids (codes "vertex") refl refl refl refl refl refl) c.version c.slots c.instrs)))
 
   abbrev few : ℕ → List ℕ → Bool
-  few count w = bytes_eq w (codes "particle") && ltb count 32768
+  few count w = bytes_eq w (codes "particle") && ltb count MOST_PARTICLE_LINES
 
   particles_stop : Stops few vertex_lines
   particles_stop = at_vertices few (λ _. refl) ps c.model.vertices leg_lines (at_legs few (λ _. refl) ps c.legs flow_lines (at_flows few (λ _. refl) c.flows den_lines (at_dens few (λ _. refl) ps c.dens slot_lines (at_slots few (record { loads = λ _. refl; fuses = λ _. refl; props = λ _. refl; keys = λ _. refl; ends = λ _. refl; slots = λ _. refl }) c.version c.slots c.instrs))))

@@ -9,7 +9,8 @@ use Rattle.om_model.specs.Name.{is_name}
 use Rattle.om_code.specs.declared.code.Code.{Code}
 use Rattle.om_code.specs.Plain.{IsPlain, IsProduct}
 use Rattle.om_program_text.specs.ProgramText.{Words, program_lines}
-use Rattle.om_program_text.specs.Words.{product_word, set_word}
+use Rattle.om_program_text.specs.Words.{product_word}
+use Rattle.om_model.specs.LegSetText.{leg_set_word}
 use Rattle.om_model.specs.Words.{structure_word}
 use Rattle.om_ring.specs.Numerals.{NumeralFits}
 use Rattle.om_asm.specs.InRange.{CodeInRange}
@@ -48,7 +49,7 @@ pub record IsDenForm (words : Words) : Type 0 where
   pub some : 1 ≤ set
   pub legs : IsLegSet set
   pub named : IsName name
-  pub texts : words ≡ codes "den" ∷ set_word set ∷ name ∷ []
+  pub texts : words ≡ codes "den" ∷ leg_set_word set ∷ name ∷ []
 
 -- the words of a vertex line with some names
 pub record IsVertexForm (words : Words) : Type 0 where

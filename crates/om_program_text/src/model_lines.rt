@@ -10,13 +10,13 @@ ghost use Rattle.om_program_text.specs.Writing.{Writes, outlet, all_of};
 ghost use Rattle.om_code.specs.Plain.{IsPlainParticle, IsPlainVertex, IsNamed, IsProduct};
 ghost use Rattle.om_model.specs.FieldNames.{field_name as field_name_of};
 
-use crate::buffer::make_room;
+use crate::buffer::{PART_BYTES, make_room};
 use crate::rows::{RowKind, write_each, write_rows};
 use om_colour::Colour;
 use om_io::{Failed, Sink};
 use om_lorentz::Structure;
 use om_model::{Particle, Product, Vertex, colour_word, field_name, spin_word, structure_word};
-use om_ring::{Line, List, Numeral, show_numeral};
+use om_ring::{LINE_BYTES, Line, List, Numeral, show_numeral};
 
 /// The particles.
 #[derive(Drop)]
@@ -60,7 +60,7 @@ fn write_names<W: Sink>(particle: &Particle, to: &mut W, line: &mut Line) -> Res
 }
 
 fn push_names(particle: &Particle, line: &mut Line)
-    requires { length line.old + 160 ≤ 512 }
+    requires { length line.old + PART_BYTES ≤ LINE_BYTES }
     ensures { let p = particle.now in line.new ≡ line.old ++ names_text p }
 {
     line.push(b"particle ");
