@@ -10,7 +10,7 @@ use Rattle.om_model.specs.declared.model.Vertex.{Vertex}
 use Rattle.om_code.specs.declared.code.Den.{Den}
 use Rattle.om_code.specs.declared.code.Instr.{Instr}
 use Rattle.om_code.specs.declared.code.Code.{Code}
-use Rattle.om_code.specs.Plain.{IsPlain, IsPlainParticle, IsPlainVertex, IsNamed, IsPlainFlow, IsPlainDen, registers_named}
+use Rattle.om_code.specs.Plain.{IsPlain, IsPlainVertex, IsNamed, IsPlainFlow, IsPlainDen, registers_named}
 use Rattle.om_asm.specs.declared.reader.Process.{Process}
 use Rattle.om_asm.specs.InRange.{ParticleInRange, VertexInRange, CodeInRange}
 use Rattle.om_program_text.specs.ProgramText.{Words, version_words, model_words, particle_words, vertex_words, leg_words, flow_words, den_words, slots_lines, instr_words, end_words, program_lines}
@@ -31,10 +31,11 @@ use Rattle.om_asm.proofs.InstrsAgain.{instrs_again}
 use Rattle.om_asm.proofs.HeadsAgain.{version_again, model_again, line_again, slots_again, end_again, at_place, slots_read, next_number}
 use Rattle.om_asm.proofs.Stopping.{AvoidsLast, at_slots, at_dens, at_flows, at_legs, at_vertices}
 use Rattle.om_code.specs.declared.code.TheConstants.{MOST_PARTICLE_LINES}
+use Rattle.om_model.specs.Rules.{HasLengths}
 
 -- ---- each kind of rows
 
-all_particles : (count : ℕ) (ps : List Particle) → count + length ps ≤ MOST_PARTICLE_LINES → AllByRecursion ParticleInRange ps → AllByRecursion IsPlainParticle ps → AllAgain (λ k w. bytes_eq w (codes "particle") && ltb k MOST_PARTICLE_LINES) (λ _ words. particle_row words) particle_words count ps
+all_particles : (count : ℕ) (ps : List Particle) → count + length ps ≤ MOST_PARTICLE_LINES → AllByRecursion ParticleInRange ps → AllByRecursion HasLengths ps → AllAgain (λ k w. bytes_eq w (codes "particle") && ltb k MOST_PARTICLE_LINES) (λ _ words. particle_row words) particle_words count ps
 all_particles count [] n h p = tt
 all_particles count (x ∷ xs) n h p = (record { w = codes "particle"; ws = _; line = refl; start = lt-ltb count MOST_PARTICLE_LINES (omega (arith, n)); says = particle_again x h.0 p.0 }, all_particles (count + 1) xs (omega (arith, n)) h.1 p.1)
 

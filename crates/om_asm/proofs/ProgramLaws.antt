@@ -10,7 +10,7 @@ use Rattle.om_model.specs.declared.model.Vertex.{Vertex}
 use Rattle.om_code.specs.declared.code.Den.{Den}
 use Rattle.om_code.specs.declared.code.Instr.{Instr}
 use Rattle.om_code.specs.declared.code.Code.{Code}
-use Rattle.om_code.specs.Plain.{IsPlain, IsPlainParticle, IsPlainVertex, IsNamed, IsPlainFlow, IsPlainDen, IsPlainInstr, InParts, AreSlots}
+use Rattle.om_code.specs.Plain.{IsPlain, IsPlainVertex, IsNamed, IsPlainFlow, IsPlainDen, IsPlainInstr, InParts, AreSlots}
 use Rattle.om_asm.specs.declared.fault.AsmKind.TheVariants.{Grammar}
 use Rattle.om_asm.specs.declared.reader.Process.{Process}
 use Rattle.om_program_text.specs.ProgramText.{Words, version_words, model_words, particle_words, vertex_words, leg_words, flow_words, den_words, slots_lines, instr_words, end_words, program_lines}
@@ -36,6 +36,7 @@ use Rattle.om_asm.proofs.ModelLaws.{particle_found, leg_found, den_found}
 use Rattle.om_asm.proofs.FlowLaws.{flow_found}
 use Rattle.om_asm.proofs.VertexLaws.{vertex_found}
 use Rattle.om_code.specs.declared.code.TheConstants.{MOST_PARTICLE_LINES}
+use Rattle.om_model.specs.Rules.{HasLengths}
 
 -- ---- each kind of rows
 
@@ -48,7 +49,7 @@ both_true false b e = cc
 
 -- a row that has a text and is within its types
 abbrev ReadableParticle : Particle → Type 0
-ReadableParticle p = IsPlainParticle p × ParticleInRange p
+ReadableParticle p = HasLengths p × ParticleInRange p
 
 abbrev ReadableVertex : List Particle → Vertex → Type 0
 ReadableVertex ps v = IsPlainVertex ps v × VertexInRange v
@@ -245,7 +246,7 @@ by_code version name ps vs p slots is lines r0 r1 r2 r3 r4 two a b c d f g hn hp
       plain = record {
         version = two;
         few_particles = few;
-        particles = firsts IsPlainParticle ParticleInRange ps hp;
+        particles = firsts HasLengths ParticleInRange ps hp;
         vertices = firsts (IsPlainVertex ps) VertexInRange vs hv;
         legs = f.legs;
         flows = firsts IsPlainFlow (λ w. length w.ends ≡ 12) p.flows f.flows;
@@ -256,7 +257,7 @@ by_code version name ps vs p slots is lines r0 r1 r2 r3 r4 two a b c d f g hn hp
       };
       range = record {
         name = hn;
-        particles = seconds IsPlainParticle ParticleInRange ps hp;
+        particles = seconds HasLengths ParticleInRange ps hp;
         vertices = seconds (IsPlainVertex ps) VertexInRange vs hv;
         flows = seconds IsPlainFlow (λ w. length w.ends ≡ 12) p.flows f.flows;
         dens = seconds (IsPlainDen ps) (λ d. IsLegSet d.legs) p.dens f.dens;

@@ -7,7 +7,7 @@ use Rattle.om_legs.specs.Legs.{IsLegSet}
 use Rattle.om_lorentz.specs.declared.structures.Structure.{Structure}
 use Rattle.om_model.specs.Name.{is_name}
 use Rattle.om_code.specs.declared.code.Code.{Code}
-use Rattle.om_code.specs.Plain.{IsPlain, IsProduct}
+use Rattle.om_code.specs.Plain.{IsPlain}
 use Rattle.om_program_text.specs.ProgramText.{Words, program_lines}
 use Rattle.om_program_text.specs.Words.{product_word}
 use Rattle.om_model.specs.LegSetText.{leg_set_word}
@@ -16,6 +16,7 @@ use Rattle.om_ring.specs.Numerals.{NumeralFits}
 use Rattle.om_asm.specs.InRange.{CodeInRange}
 use Rattle.om_asm.specs.declared.fault.AsmKind.{AsmKind}
 use Rattle.om_asm.specs.declared.fault.AsmKind.TheVariants.{Name}
+use Rattle.om_model.specs.Rules.{HasLength}
 
 -- the text of some code begins with these lines
 pub record BeginsProgram (lines : List Words) : Type 0 where
@@ -34,7 +35,7 @@ IsName w = is_name w ≡ true
 
 -- 1 to 8 numerals of 64 bits
 abbrev pub IsReadableProduct : List Numeral → Type 0
-IsReadableProduct p = IsProduct p × AllByRecursion NumeralFits p
+IsReadableProduct p = HasLength p × AllByRecursion NumeralFits p
 
 -- the words of a leg line with some name
 pub record IsLegForm (words : Words) : Type 0 where

@@ -7,7 +7,8 @@ ghost use Rattle.om_program_text.specs.Parts.{names_text, particle_parts, vertex
 ghost use Rattle.om_program_text.specs.Words.{product_word};
 ghost use Rattle.om_model.specs.Words.{spin_word as spin_word_of, structure_word as structure_word_of, colour_word as colour_word_of};
 ghost use Rattle.om_program_text.specs.Writing.{Writes, outlet, all_of};
-ghost use Rattle.om_code.specs.Plain.{IsPlainParticle, IsPlainVertex, IsNamed, IsProduct};
+ghost use Rattle.om_model.specs.Rules.{HasLength, HasLengths};
+ghost use Rattle.om_code.specs.Plain.{IsPlainVertex, IsNamed};
 ghost use Rattle.om_model.specs.FieldNames.{field_name as field_name_of};
 
 use crate::buffer::{PART_BYTES, make_room};
@@ -25,7 +26,7 @@ pub(crate) struct ParticleLines;
 impl RowKind for ParticleLines {
     type Row = Particle;
 
-    ghost plain = { λ _ p. IsPlainParticle p };
+    ghost plain = { λ _ p. HasLengths p };
 
     ghost text = { λ _ p. line_text (particle_words p) };
 
@@ -209,7 +210,7 @@ impl RowKind for VertexFactors {
 
     type Row = Product;
 
-    ghost plain = { λ _ p. IsProduct p };
+    ghost plain = { λ _ p. HasLength p };
 
     ghost text = { λ _ p. 32 ∷ product_word p };
 
