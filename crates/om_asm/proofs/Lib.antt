@@ -1,3 +1,4 @@
+pub mod AllLines
 pub mod FewRows
 pub mod FirstFields
 pub mod FirstBadLine

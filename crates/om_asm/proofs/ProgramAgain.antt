@@ -32,6 +32,7 @@ use Rattle.om_asm.proofs.HeadsAgain.{version_again, model_again, line_again, slo
 use Rattle.om_asm.proofs.Stopping.{AvoidsLast, at_slots, at_dens, at_flows, at_legs, at_vertices}
 use Rattle.om_code.specs.declared.code.TheConstants.{MOST_PARTICLE_LINES}
 use Rattle.om_model.specs.Rules.{HasLengths}
+use Rattle.om_asm.proofs.ProgramLaws.{a_code, from_instrs, from_slots, from_process, from_vertices, from_particles, from_name}
 
 -- ---- each kind of rows
 
@@ -135,35 +136,6 @@ module _ (c : Code) where
       ∙ ap (λ (r : Result (List Flow × At) BadLine). r >>= λ flows. rows_at (codes "den") (den_row ps) flows.1 >>= λ dens. at_place (a_process c.legs flows.0 dens.0) dens.1.number dens.1.lines) f
       ∙ ap (λ (r : Result (List Den × At) BadLine). r >>= λ dens. at_place (a_process c.legs c.flows dens.0) dens.1.number dens.1.lines) d
 
-  abbrev a_code : ℕ → List ℕ → List Particle → List Vertex → Process → ℕ → List Instr → Result Code BadLine
-  a_code version name particles vs p slots is = Ok (record {
-    version = version;
-    model = record { name = name; particles = particles; vertices = vs };
-    legs = p.legs;
-    flows = p.flows;
-    dens = p.dens;
-    slots = slots_number version slots is;
-    instrs = is;
-  })
-
-  abbrev from_instrs : ℕ → List ℕ → List Particle → List Vertex → Process → ℕ → At → Result Code BadLine
-  from_instrs version name particles vs p slots a = instrs_at version a >>= λ is. end_at is.1 >>= λ _. a_code version name particles vs p slots is.0
-
-  abbrev from_slots : ℕ → List ℕ → List Particle → List Vertex → Process → At → Result Code BadLine
-  from_slots version name particles vs p a = slots_at version a >>= λ s. from_instrs version name particles vs p s.0 s.1
-
-  abbrev from_process : ℕ → List ℕ → List Particle → List Vertex → At → Result Code BadLine
-  from_process version name particles vs a = process_at particles a >>= λ p. from_slots version name particles vs p.0 p.1
-
-  abbrev from_vertices : ℕ → List ℕ → List Particle → At → Result Code BadLine
-  from_vertices version name particles a = rows_at (codes "vertex") (vertex_row particles) a >>= λ vs. from_process version name particles vs.0 vs.1
-
-  abbrev from_particles : ℕ → List ℕ → At → Result Code BadLine
-  from_particles version name a = particles_at a >>= λ particles. from_vertices version name particles.0 particles.1
-
-  abbrev from_name : ℕ → At → Result Code BadLine
-  from_name version a = one_line model_name_of a >>= λ n. from_particles version n.0 n.1
-
   ends_stop : (number : ℕ) → instrs_at c.version (place number instr_lines) ≡ instrs_at c.version (place number instr_lines)
   ends_stop number = refl
 
@@ -188,8 +160,8 @@ module _ (c : Code) where
       let i = instrs_again c.version next c.instrs last_lines plain.parts plain.instrs range.instrs (refl, (refl, refl)) in
       let e = end_again (next + length c.instrs) in
       ap (λ (r : Result (ℕ × At) BadLine). r >>= λ s. from_instrs c.version c.model.name ps c.model.vertices the_process s.0 s.1) s
-      ∙ ap (λ (r : Result (List Instr × At) BadLine). r >>= λ is. end_at is.1 >>= λ _. a_code c.version c.model.name ps c.model.vertices the_process (slots_read c.version c.slots) is.0) i
-      ∙ ap (λ (r : Result (Unit {0}) BadLine). r >>= λ _. a_code c.version c.model.name ps c.model.vertices the_process (slots_read c.version c.slots) c.instrs) e
+      ∙ ap (λ (r : Result (List Instr × At) BadLine). r >>= λ is. end_at is.1 >>= λ _. Ok (a_code c.version c.model.name ps c.model.vertices the_process (slots_read c.version c.slots) is.0)) i
+      ∙ ap (λ (r : Result (Unit {0}) BadLine). r >>= λ _. Ok (a_code c.version c.model.name ps c.model.vertices the_process (slots_read c.version c.slots) c.instrs)) e
       ∙ ap (λ k. let d : Code = record c { slots = k } in Ok d) (slots_same plain)
 
   program_right : (plain : IsPlain c) (range : CodeInRange c) → program_at (place 1 all_of_it) ≡ Ok c

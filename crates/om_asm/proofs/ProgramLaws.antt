@@ -129,10 +129,10 @@ a_code version name ps vs p slots is = record {
   instrs = is;
 }
 
-abbrev from_instrs : ℕ → List ℕ → List Particle → List Vertex → Process → ℕ → At → Result Code BadLine
+abbrev pub from_instrs : ℕ → List ℕ → List Particle → List Vertex → Process → ℕ → At → Result Code BadLine
 from_instrs version name ps vs p slots a = instrs_at version a >>= λ is. end_at is.1 >>= λ _. Ok (a_code version name ps vs p slots is.0)
 
-abbrev from_slots : ℕ → List ℕ → List Particle → List Vertex → Process → At → Result Code BadLine
+abbrev pub from_slots : ℕ → List ℕ → List Particle → List Vertex → Process → At → Result Code BadLine
 from_slots version name ps vs p a = slots_at version a >>= λ s. from_instrs version name ps vs p s.0 s.1
 
 abbrev ending : Bool → ℕ → Result (Unit {0}) BadLine
@@ -217,16 +217,16 @@ all_lines lines r0 r1 r2 r3 r4 v m ps vs lf ds si e a b c d f g =
 regroup : (a vs ls fs ds ss is e : List Words) → a ++ vs ++ ((ls ++ fs) ++ ds) ++ ((ss ++ is) ++ e) ≡ a ++ vs ++ ls ++ fs ++ ds ++ ss ++ is ++ e
 regroup a vs ls fs ds ss is e = simp append_assoc
 
-abbrev from_process : ℕ → List ℕ → List Particle → List Vertex → At → Result Code BadLine
+abbrev pub from_process : ℕ → List ℕ → List Particle → List Vertex → At → Result Code BadLine
 from_process version name ps vs a = process_at ps a >>= λ p. from_slots version name ps vs p.0 p.1
 
-abbrev from_vertices : ℕ → List ℕ → List Particle → At → Result Code BadLine
+abbrev pub from_vertices : ℕ → List ℕ → List Particle → At → Result Code BadLine
 from_vertices version name ps a = rows_at (codes "vertex") (vertex_row ps) a >>= λ vs. from_process version name ps vs.0 vs.1
 
-abbrev from_particles : ℕ → List ℕ → At → Result Code BadLine
+abbrev pub from_particles : ℕ → List ℕ → At → Result Code BadLine
 from_particles version name a = particles_at a >>= λ ps. from_vertices version name ps.0 ps.1
 
-abbrev from_name : ℕ → At → Result Code BadLine
+abbrev pub from_name : ℕ → At → Result Code BadLine
 from_name version a = one_line model_name_of a >>= λ n. from_particles version n.0 n.1
 
 abbrev two_versions : ℕ → Type 0

@@ -13,7 +13,7 @@ use Rattle.om_graph.specs.declared.Key.{Key}
 use Rattle.om_graph.specs.Vertices.{Reaction, Fuses, sets_of}
 
 -- of numbers above 0
-pub sum_least : (f : ℕ → ℕ) (xs : List ℕ) → ((x : ℕ) → In x xs → 0 < f x) → length xs ≤ sum_by f xs
+sum_least : (f : ℕ → ℕ) (xs : List ℕ) → ((x : ℕ) → In x xs → 0 < f x) → length xs ≤ sum_by f xs
 sum_least f [] h = omega arith
 sum_least f (x ∷ xs) h = let a = h x (inl refl) in let b = sum_least f xs (λ y i. h y (inr i)) in omega (arith, a, b, sum_by-cons f x xs)
 
@@ -22,16 +22,16 @@ member_least f [] x i = elim i [ ]
 member_least f (y ∷ xs) x (inl e) = let q = ap f e in omega (arith, q, sum_by-cons f y xs)
 member_least f (y ∷ xs) x (inr i) = omega (arith, member_least f xs x i, sum_by-cons f y xs)
 
-pub member_less : (f : ℕ → ℕ) (xs : List ℕ) (x : ℕ) → In x xs → 2 ≤ length xs → ((x : ℕ) → In x xs → 0 < f x) → f x < sum_by f xs
+member_less : (f : ℕ → ℕ) (xs : List ℕ) (x : ℕ) → In x xs → 2 ≤ length xs → ((x : ℕ) → In x xs → 0 < f x) → f x < sum_by f xs
 member_less f [] x i l h = elim i [ ]
 member_less f (y ∷ xs) x (inl e) l h = let q = ap f e in let a = sum_least f xs (λ y i. h y (inr i)) in omega (arith, q, a, l, sum_by-cons f y xs)
 member_less f (y ∷ xs) x (inr i) l h = let a = h y (inl refl) in omega (arith, a, member_least f xs x i, sum_by-cons f y xs)
 
-pub at_least_two : {m : ℕ} → (m ≡ 2) ⊎ (m ≡ 3) → 2 ≤ m
+at_least_two : {m : ℕ} → (m ≡ 2) ⊎ (m ≡ 3) → 2 ≤ m
 at_least_two (inl e) = omega arith
 at_least_two (inr e) = omega arith
 
-pub split_sizes : (c set : ℕ) (parts : List ℕ) → (c ≡ 2) ⊎ (c ≡ 3) → sets.IsLegSet set → IsSplit c set parts → sum_by sets.size parts ≡ sets.size set
+split_sizes : (c set : ℕ) (parts : List ℕ) → (c ≡ 2) ⊎ (c ≡ 3) → sets.IsLegSet set → IsSplit c set parts → sum_by sets.size parts ≡ sets.size set
 split_sizes c set parts (inl e) w h = sizes_of_parts 1 set parts w (subst (λ m. IsSplit m set parts) e h)
 split_sizes c set parts (inr e) w h = sizes_of_parts 2 set parts w (subst (λ m. IsSplit m set parts) e h)
 

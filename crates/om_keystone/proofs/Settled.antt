@@ -28,7 +28,7 @@ use Rattle.om_graph.specs.Vertices.{Reaction, Fuses, fusion, sets_of, fused_slot
 use Rattle.om_graph.specs.Possible.{key_lt, IsPossible}
 use Rattle.om_graph.specs.TreeKeys.{IsReaction}
 use Rattle.om_graph.proofs.KeysOfSides.{leg_subtree}
-use Rattle.om_graph.proofs.PartSizes.{at_least_two, member_less, split_sizes, sum_least}
+use Rattle.om_graph.proofs.PartSizes.{fused_part, fused_some}
 
 bit_same : (a b : Bool) → bit a ≡ bit b → a ≡ b
 bit_same true true e = refl
@@ -39,23 +39,7 @@ bit_same false true e = absurd (omega (arith, e))
 same_split : (c a b : ℕ) (parts : List ℕ) → IsSplit c a parts → IsSplit c b parts → a ≡ b
 same_split c a b parts h g = same_sets a b (λ leg. bit_same (sets.holds a leg) (sets.holds b leg) (sym (h.shared leg) ∙ g.shared leg))
 
-part_sizes : (c set : ℕ) (parts : List ℕ) → sets.IsLegSet set → IsSplit c set parts → (x : ℕ) → In x parts → 0 < sets.size x
-part_sizes c set parts w h x i = size_some x (part_filled c set parts h x i) (IsLegSet-part c set parts w h x i)
-
 module _ (r : Reaction) where
-  fused_part : (f v c : ℕ) (ks : List Key) (k b : Key) → Fuses r f v c ks k → In b ks → sets.size b.legs < sets.size k.legs
-  fused_part f v c ks k b h i =
-      subst (λ m. sets.size b.legs < m) (split_sizes (length ks) k.legs (sets_of ks) h.counted h.legs h.split)
-      (member_less sets.size (sets_of ks) b.legs (in_map (λ (k : Key). k.legs) b ks i) (let l = at_least_two h.counted in subst (λ m. 2 ≤ m) (sym h.split.counted) l) (part_sizes (length ks) k.legs (sets_of ks) h.legs h.split))
-
-  fused_some : (f v c : ℕ) (ks : List Key) (k : Key) → Fuses r f v c ks k → 1 < sets.size k.legs
-  fused_some f v c ks k h =
-      let a = sum_least sets.size (sets_of ks) (part_sizes (length ks) k.legs (sets_of ks) h.legs h.split) in
-      let b = at_least_two h.counted in
-      let e = split_sizes (length ks) k.legs (sets_of ks) h.counted h.legs h.split in
-      let m = h.split.counted in
-      omega (arith, a, b, e, m)
-
   fused_once : (f v c : ℕ) (ks : List Key) (j k : Key) → Fuses r f v c ks j → Fuses r f v c ks k → j ≡ k
   fused_once f v c ks j k h g = by j k (same_split (length ks) j.legs k.legs (sets_of ks) h.split g.split) (h.has_field ∙ sym g.has_field)
       (h.partial ∙ ap (λ x. let slots = fused_slots r f v x ks in joined (slot_partials slots) (r.choice v c) (hole_of slots)) (same_split (length ks) j.legs k.legs (sets_of ks) h.split g.split) ∙ sym g.partial)
@@ -65,7 +49,7 @@ module _ (r : Reaction) where
 
   pub branches_first : BranchesFirst (fusion r) key_lt
   unfolding key_lt numbers_lt
-  branches_first f v c ks k b h i = by (sets.size b.legs) (sets.size k.legs) _ (fused_part f v c ks k b h i)
+  branches_first f v c ks k b h i = by (sets.size b.legs) (sets.size k.legs) _ (fused_part r f v c ks k b h i)
     where
       by : (x y : ℕ) (z : Bool) → x < y → cond (ltb x y) true z ≡ true
       by x y z l = let e : ltb x y ≡ true = grind (arith, nat_tests) in rw e refl
@@ -95,7 +79,7 @@ module _ (r : Reaction) where
       has_field = λ f v c ks k h. h.has_field;
       fuse_once = fused_once;
       leg_rank = one_leg;
-      fused_rank = fused_some;
-      rises = fused_part;
+      fused_rank = fused_some r;
+      rises = fused_part r;
       legs_differ = λ i j a b c d e. differ i j a b c d (ap (λ (k : Key). k.legs) e);
     }
