@@ -1,0 +1,1 @@
+//! The listings of small processes.
