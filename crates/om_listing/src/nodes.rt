@@ -1,6 +1,6 @@
 //! The lines of nodes, each with those of the fusions that make it.
 ghost use Rattle.std.specs.Prelude.{◌≡◌, ◌+◌, ◌<◌, ◌^◌, ◌≤◌, ◌++◌, length, map, not, eqb};
-ghost use Rattle.std.specs.List.{position_or_len};
+ghost use Rattle.std.specs.List.{position, position_or_len};
 ghost use Rattle.om_ring.specs.declared.line.TheConstants.{LINE_BYTES};
 ghost use Rattle.om_io.specs.declared.buffer.TheConstants.{ROOM_BYTES};
 ghost use Rattle.om_io.specs.Writing.{Writes, outlet};
@@ -8,7 +8,7 @@ ghost use Rattle.om_model.specs.Order.{Rising};
 ghost use Rattle.om_graph.specs.Graph.{numbered_lt};
 ghost use Rattle.om_graph.specs.Possible.{unsigned};
 ghost use Rattle.om_graph.specs.declared.Term.{Term as TermOf};
-ghost use Rattle.om_listing.specs.Parts.{node_line, node_parts};
+ghost use Rattle.om_listing.specs.Parts.{fusion_lines, node_line, node_parts};
 
 use crate::terms::FusionLines;
 use om_colour::partial_text;
@@ -32,8 +32,7 @@ pub(crate) fn write_nodes<W: Sink>(
     let mut rest = terms;
     for (number, key) in nodes.iter().enumerate() {
         let (fusions, later) = rest.split_at(count_of_node(number, rest));
-        write_node(particles, number, key, to, line)?;
-        write_each(&FusionLines, fusions, to, line)?;
+        write_node(particles, number, key, fusions, to, line)?;
         rest = later;
     }
     Ok(())
@@ -43,13 +42,33 @@ pub(crate) fn write_nodes<W: Sink>(
 fn count_of_node(number: usize, terms: &[Term]) -> usize
     ensures { result ≡ position_or_len (λ (x : TermOf). not (eqb x.node number)) terms.now }
 {
-    terms
-        .iter()
-        .position(|term| term.node as usize != number)
-        .unwrap_or(terms.len())
+    first_of_another(number, terms).unwrap_or(terms.len())
 }
 
+// The place of the first of the terms that makes another node.
+fn first_of_another(number: usize, terms: &[Term]) -> Option<usize>
+    ensures { result ≡ position (λ (x : TermOf). not (eqb x.node number)) terms.now }
+{
+    terms.iter().position(|term| term.node as usize != number)
+}
+
+// Writes the line of a node, and those of the fusions that make it.
 fn write_node<W: Sink>(
+    particles: &[Particle],
+    number: usize,
+    key: &Key,
+    fusions: &[Term],
+    to: &mut W,
+    line: &mut Line,
+) -> Result<(), Failed>
+    requires { number + 1 < 2 ^ 64 }
+    ensures { Writes (outlet (W.written to.old) (W.faults to.old) line.old) (outlet (W.written to.new) (W.faults to.new) line.new) (node_line particles.now number key.now ++ fusion_lines fusions.now) result }
+{
+    write_node_line(particles, number, key, to, line)?;
+    write_each(&FusionLines, fusions, to, line)
+}
+
+fn write_node_line<W: Sink>(
     particles: &[Particle],
     number: usize,
     key: &Key,
