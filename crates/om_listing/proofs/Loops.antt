@@ -7,7 +7,6 @@ use Rattle.om_io.specs.Writing.{Outlet, Takes, Breaks}
 use Rattle.om_io.proofs.Outlets.{row_more, row_breaks}
 
 module _ {A : Type 0} (text : ℕ × A → List ℕ) (xs : List A) where
-
   within : (i : ℕ) → i < length xs → i < length (enumerate_from 0 xs)
   within i lt = omega (arith, length-enumerate_from 0 xs)
 
