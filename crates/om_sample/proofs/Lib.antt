@@ -1,0 +1,5 @@
+pub mod Draws
+pub mod Drawn
+pub mod Adding
+pub mod CodeSums
+pub mod Balance

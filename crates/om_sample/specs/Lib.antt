@@ -1,0 +1,4 @@
+pub mod Generator
+pub mod Events
+pub mod Sums
+pub mod Texts
