@@ -3,3 +3,4 @@ pub mod Drawn
 pub mod Adding
 pub mod CodeSums
 pub mod Balance
+pub mod Accepted

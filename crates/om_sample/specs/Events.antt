@@ -1,5 +1,5 @@
 -- The events of a sample.
-use Rattle.std.specs.Prelude.{◌≡◌, ℕ, ◌+◌, ◌-◌, ◌*◌, List, [], ◌∷◌, ◌++◌, length, map, replicate}
+use Rattle.std.specs.Prelude.{◌≡◌, ℕ, ◌+◌, ◌-◌, ◌*◌, ◌≤◌, List, [], ◌∷◌, ◌++◌, length, map, replicate}
 use Rattle.om_ring.specs.Ops.{Ops, number_of}
 use Rattle.om_ring.specs.Sums.{sum_over}
 use Rattle.om_lorentz.specs.declared.vectors.Four.{Four}
@@ -9,7 +9,8 @@ use Rattle.om_kernel.specs.declared.waves.Wave.TheVariants.{Scalar}
 use Rattle.om_kernel.specs.Waves.{a_scalar, kind_of}
 use Rattle.om_model.specs.Diagram.{upto}
 use Rattle.om_model.specs.Entries.{four_of}
-use Rattle.om_code.specs.Waves.{Incoming, minus_four}
+use Rattle.om_model.specs.Event.{Balances}
+use Rattle.om_code.specs.Waves.{Incoming, event_of, minus_four}
 use Rattle.om_sample.specs.Generator.{draw, state_after}
 
 -- five draws for each leg below the last, and one for that
@@ -52,6 +53,10 @@ module _ {E : Type 0} (o : Ops E) where
   -- event number e of the sample of a seed, counted from 0
   abbrev pub sample_event : ℕ → ℕ → ℕ → Incoming E
   sample_event seed legs e = drawn_event (state_after seed (e * draws_of_event legs)) legs
+
+-- the momenta of each event of a sample add up to zero
+abbrev pub SamplesBalance : {E : Type 0} → Ops E → Type 0
+SamplesBalance o = (seed legs e : ℕ) → 1 ≤ legs → Balances o (event_of o (sample_event o seed legs e)) legs
 
 -- an event with so many legs, which are all those of scalars
 pub record IsOfScalars {E : Type 0} (legs : ℕ) (e : Incoming E) : Type 0 where

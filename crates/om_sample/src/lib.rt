@@ -5,12 +5,15 @@
 
 mod events;
 mod generator;
+pub mod laws;
 mod limits;
 mod line;
+mod model;
 mod sums;
 
 pub use events::draw_event;
 pub use generator::Generator;
 pub use limits::{DRAW_UNIT, INCREMENT, MULTIPLIER, SAMPLE_EVENTS};
 pub use line::{read_legs, write_sample};
+pub use model::{sample_model, sample_process};
 pub use sums::{Sums, sum_sample};
