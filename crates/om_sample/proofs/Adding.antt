@@ -46,3 +46,13 @@ module _ {E : Type 0} (o : Ops E) (Gives : Incoming E → Option E → Type 0) (
     poles_are = ap (λ k. k + 1) a.poles_are ∙ sym (ap length (filter-append is_none a.given (None ∷ [])) ∙ length-append (filter is_none a.given) (None ∷ []));
     total_is = a.total_is ∙ sym (sum_over-push o l a.given None (value_or_none o) ∙ l.plus_zero _);
   }
+
+module _ {E : Type 0} (o : Ops E) (event : ℕ → Incoming E) (Gives Others : Incoming E → Option E → Type 0) where
+  given_to : (k : ℕ) (xs : List (Option E)) → ((n : ℕ) (x : Option E) → Gives (event n) x → Others (event n) x) → AreGiven o Gives event k xs → AreGiven o Others event k xs
+  unfolding AreGiven
+  given_to k [] h a = tt
+  given_to k (x ∷ xs) h a = (h k x a.0, given_to (k + 1) xs h a.1)
+
+  -- what others give, who give at each event what these give
+  pub adds_up_to : (n poles : ℕ) (total : E) → ((k : ℕ) (x : Option E) → Gives (event k) x → Others (event k) x) → AddUpTo o Gives event n poles total → AddUpTo o Others event n poles total
+  adds_up_to n poles total h a = record { given = a.given; count = a.count; are_given = given_to 0 a.given h a.are_given; poles_are = a.poles_are; total_is = a.total_is }

@@ -4,3 +4,4 @@ pub mod Adding
 pub mod CodeSums
 pub mod Balance
 pub mod Accepted
+pub mod Made

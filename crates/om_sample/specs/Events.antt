@@ -11,6 +11,8 @@ use Rattle.om_model.specs.Diagram.{upto}
 use Rattle.om_model.specs.Entries.{four_of}
 use Rattle.om_model.specs.Event.{Balances}
 use Rattle.om_code.specs.Waves.{Incoming, event_of, minus_four}
+use Rattle.om_code.specs.declared.code.Code.{Code}
+use Rattle.om_machine.specs.Events.{kind_of_field}
 use Rattle.om_sample.specs.Generator.{draw, state_after}
 
 -- five draws for each leg below the last, and one for that
@@ -62,3 +64,7 @@ SamplesBalance o = (seed legs e : ℕ) → 1 ≤ legs → Balances o (event_of o
 pub record IsOfScalars {E : Type 0} (legs : ℕ) (e : Incoming E) : Type 0 where
   pub momenta : length e.momenta ≡ legs
   pub waves : map kind_of e.waves ≡ replicate legs a_scalar
+
+-- the legs of a code are all those of scalars
+abbrev pub HasScalarLegs : Code → Type 0
+HasScalarLegs c = map (kind_of_field c.model.particles) c.legs ≡ replicate (length c.legs) a_scalar

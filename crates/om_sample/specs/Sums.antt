@@ -1,5 +1,5 @@
 -- What some events sum up to: how many have a pole, and the sum of the values of the others.
-use Rattle.std.specs.Prelude.{◌≡◌, ℕ, ◌+◌, List, [], ◌∷◌, length, filter, is_none, Option, Some, None}
+use Rattle.std.specs.Prelude.{◌≡◌, ℕ, ◌+◌, ◌≤◌, List, [], ◌∷◌, length, filter, is_none, Option, Some, None}
 use Rattle.om_ring.specs.Ops.{Ops}
 use Rattle.om_ring.specs.Sums.{sum_list, sum_over}
 use Rattle.om_model.specs.Answer.Answer.{pole as pole_answer, values as values_answer}
@@ -13,6 +13,10 @@ use Rattle.om_code.specs.Meaning.MachineAnswer.{pole, values}
 use Rattle.om_code.specs.Waves.{Incoming, event_of}
 use Rattle.om_code.specs.declared.code.Code.{Code}
 use Rattle.om_code.specs.declared.code.Den.{Den}
+use Rattle.om_machine.specs.Events.{IsMadeFor}
+use Rattle.om_sample.specs.Events.{HasScalarLegs, sample_event}
+use Rattle.om_sample.specs.Model.{sample_model, sample_process}
+use Rattle.om_sample.specs.declared.limits.TheConstants.{SAMPLE_EVENTS}
 
 module _ {E : Type 0} (o : Ops E) where
   -- An event has a value, the sum over all flows, or a pole, which is None. Here as a code answers it,
@@ -42,3 +46,15 @@ module _ {E : Type 0} (o : Ops E) where
       pub are_given : AreGiven 0 given
       pub poles_are : poles ≡ length (filter is_none given)
       pub total_is : total ≡ sum_over o given value_or_none
+
+-- the sample of a seed with so many legs sums up to this, by the diagrams of its process
+abbrev pub IsSample : {E : Type 0} → Ops E → ℕ → ℕ → ℕ → E → Type 0
+IsSample o seed legs poles total = AddUpTo o (ModelGives o sample_model (sample_process legs)) (sample_event o seed legs) SAMPLE_EVENTS poles total
+
+-- A code sums up to it, whose legs are those of scalars and which gives for each event that is made for it what the diagrams of
+-- the process do.
+abbrev pub SamplesByCode : {E : Type 0} → Ops E → Type 0
+SamplesByCode {E} o = (c : Code) (t : Table E) (seed poles : ℕ) (total : E) → 1 ≤ length c.legs → HasScalarLegs c
+    → ((e : Incoming E) (x : Option E) → IsMadeFor c e → CodeGives o c t e x → ModelGives o sample_model (sample_process (length c.legs)) e x)
+    → AddUpTo o (CodeGives o c t) (sample_event o seed (length c.legs)) SAMPLE_EVENTS poles total
+    → IsSample o seed (length c.legs) poles total

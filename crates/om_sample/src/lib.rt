@@ -10,6 +10,8 @@ mod limits;
 mod line;
 mod model;
 mod sums;
+#[cfg(test)]
+mod tests;
 
 pub use events::draw_event;
 pub use generator::Generator;

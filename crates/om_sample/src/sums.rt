@@ -6,7 +6,7 @@ ghost use Rattle.om_machine.specs.Bound.{part};
 ghost use Rattle.om_machine.specs.Events.{IsMadeFor};
 ghost use Rattle.om_machine.specs.Machines.{KeepsInverses, table_of};
 ghost use Rattle.om_machine.specs.declared.answer.Outcome.TheVariants.{Values};
-ghost use Rattle.om_sample.specs.Events.{IsOfScalars, sample_event};
+ghost use Rattle.om_sample.specs.Events.{HasScalarLegs, sample_event};
 ghost use Rattle.om_sample.specs.Sums.{AddUpTo, CodeGives};
 ghost use Rattle.om_sample.specs.declared.limits.TheConstants.{SAMPLE_EVENTS};
 
@@ -53,7 +53,7 @@ pub fn sum_sample<R: Ring<Mark = L>, L>(
     steps: &mut Steps<L>,
 ) -> Sums<R::E>
     requires made { IsMadeFor machine.old.code event.old }
-    requires scalars { IsOfScalars (length machine.old.code.legs) event.old }
+    requires scalars { HasScalarLegs machine.old.code }
     requires few { length machine.old.code.flows < 2 ^ 32 }
     requires kept { KeepsInverses (R.ops ring.now) machine.old.code machine.old.masses }
     ensures sums { let o = R.ops ring.now in let c = machine.old.code in

@@ -26,7 +26,7 @@ pub set-requires-clause-kind : goal.set-requires-clause-kind
 set-requires-clause-kind g c =
     let o = g.R.Ring.ops c.args.ring.now in
     let inv = c.loop-leg.invariant in
-    has_place o c.args.legs (c.loop-leg.leg - 1) c.loop-leg.event c.draw_wave-wave.result _ c.draw_wave-wave.ensures.value inv.drawn.scalars (omega (arith, c.loop-leg-test.true, inv.low))
+    has_place o c.args.legs (c.loop-leg.leg - 1) c.loop-leg.event c.draw_wave-wave.result (drawn o c.draw_momentum-momentum.new.generator.state 0) c.draw_wave-wave.ensures.value inv.drawn.scalars (omega (arith, c.loop-leg-test.true, inv.low))
 
 pub loop-leg-preserved : goal.loop-leg-preserved
 loop-leg-preserved g c =

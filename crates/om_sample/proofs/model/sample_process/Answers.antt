@@ -19,7 +19,7 @@ loop-leg-preserved c =
       low = omega (arith, inv.low);
       high = omega (arith, c.loop-leg-test.true);
       all = c.in_ok-push-2.ensures.ok ∙ ap (λ xs. xs ++ outgoing_leg ∷ []) inv.all
-      ∙ ap (λ xs. incoming_leg ∷ xs) (replicate-append-replicate (c.loop-leg._leg - 1) 1 outgoing_leg ∙ ap (λ n. replicate n outgoing_leg) next);
+          ∙ ap (λ xs. incoming_leg ∷ xs) (replicate-append-replicate (c.loop-leg._leg - 1) 1 outgoing_leg ∙ ap (λ n. replicate n outgoing_leg) next);
     }
 
 pub returns : goal.returns

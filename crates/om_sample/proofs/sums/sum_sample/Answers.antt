@@ -17,6 +17,7 @@ use Rattle.om_sample.specs.Events.{IsOfScalars, draws_of_event, drawn_event, sam
 use Rattle.om_sample.specs.Sums.{AddUpTo, CodeGives}
 use Rattle.om_sample.specs.declared.sums.Sums.{Sums}
 use Rattle.om_sample.proofs.Draws.{and_then, none_drawn}
+use Rattle.om_sample.proofs.Made.{of_scalars}
 use Rattle.om_sample.proofs.Balance.{drawn_balances}
 use Rattle.om_sample.proofs.CodeSums.{same_meaning, sum_for_each_flow}
 use Rattle.om_sample.proofs.Adding.{none_added, pole_added, value_added, with_values_calls, without_values_calls}
@@ -34,7 +35,7 @@ loop-event-init g c =
       factors = refl;
       masses = refl;
       made = c.requires.made;
-      scalars = c.requires.scalars;
+      scalars = of_scalars code c.args.event.now c.requires.scalars c.requires.made;
       state = sym (ap (state_after c.args.seed) none ∙ none_drawn c.args.seed);
       few = omega arith;
       sums = subst (λ x. AddUpTo o (CodeGives o code (table_of o c.args.machine.now)) (sample_event o c.args.seed legs) 0 0 x) (sym c.zero.ensures) (none_added o (CodeGives o code (table_of o c.args.machine.now)) (sample_event o c.args.seed legs));
