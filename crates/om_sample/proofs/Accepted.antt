@@ -1,10 +1,10 @@
 -- The model of a sample breaks no rule.
-use Rattle.std.proofs.Common.{◌≡◌, ℕ, zero, suc, ◌+◌, ◌<◌, ◌≤◌, ◌⊎◌, inl, inr, Bool, true, false, List, [], ◌∷◌, length, take, refl, ap, sym, ◌∙◌, arith, subst}
+use Rattle.std.proofs.Common.{◌≡◌, ℕ, zero, suc, inl, inr, false, [], ◌∷◌, take, refl, sym, ◌∙◌, arith, subst}
 use Rattle.std.specs.Prelude.{Option, Some, None, slice_get}
 use Rattle.std.specs.Option.{option_map}
 use Rattle.std.proofs.lemmas.Option.{slice_get_past}
 use Rattle.om_ring.specs.Ops.{Laws, Ops, number_of, signed, turned}
-use Rattle.om_ring.specs.Products.{product_value, times_option}
+use Rattle.om_ring.specs.Products.{times_option}
 use Rattle.om_ring.proofs.RingLemmas.{zero_plus}
 use Rattle.om_model.specs.Rules.{HasNoValue, IsAccepted, ParticleBreaks, RowBreaks, VertexBreaks}
 use Rattle.om_model.specs.declared.rules.ModelRule.{ModelRule}

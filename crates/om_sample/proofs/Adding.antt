@@ -1,11 +1,10 @@
 -- Sums over events, one event more.
-use Rattle.std.proofs.Common.{◌≡◌, ℕ, suc, ◌+◌, ◌*◌, ◌≤◌, List, [], ◌∷◌, ◌++◌, length, refl, ap, sym, ◌∙◌, arith, subst}
+use Rattle.std.proofs.Common.{◌≡◌, ℕ, ◌+◌, ◌*◌, ◌≤◌, List, [], ◌∷◌, ◌++◌, length, refl, ap, sym, ◌∙◌, arith, subst}
 use Rattle.std.specs.Prelude.{Option, Some, None, is_none}
 use Rattle.std.specs.List.{filter}
 use Rattle.std.proofs.lemmas.List.{append-nil, length-append}
 use Rattle.std.proofs.lemmas.List.Elements.{filter-append}
 use Rattle.om_ring.specs.Ops.{Ops, Laws}
-use Rattle.om_ring.specs.Sums.{sum_over}
 use Rattle.om_ring.proofs.SumLemmas.{sum_over-push}
 use Rattle.om_code.specs.Waves.{Incoming}
 use Rattle.om_sample.specs.Sums.{AddUpTo, AreGiven, value_or_none}

@@ -1,10 +1,10 @@
 -- What a code gives for an event: a sum for each flow.
-use Rattle.std.proofs.Common.{◌≡◌, ℕ, ◌+◌, ◌<◌, List, [], ◌∷◌, ◌++◌, length, take, get_or, replicate, refl, ap, ap₂, sym, ◌∙◌, arith, subst}
-use Rattle.std.specs.Prelude.{Some, slice_get, slice_set}
+use Rattle.std.proofs.Common.{◌≡◌, ℕ, ◌+◌, ◌<◌, List, [], ◌∷◌, ◌++◌, length, take, get_or, refl, ap, sym, ◌∙◌, subst}
+use Rattle.std.specs.Prelude.{Some, slice_get}
 use Rattle.std.proofs.lemmas.Option.{get_or_from_slice_get}
 use Rattle.std.proofs.lemmas.List.{length-replicate, length-set, take_more}
 use Rattle.om_ring.specs.Ops.{Ops, Laws}
-use Rattle.om_ring.specs.Sums.{sum_list, sum_over}
+use Rattle.om_ring.specs.Sums.{sum_list}
 use Rattle.om_ring.proofs.SumLemmas.{sum_over-push}
 use Rattle.om_model.specs.FeynmanRules.{Table}
 use Rattle.om_code.specs.Meaning.{IsMeaning, MachineAnswer, Values, act, run, sums_of, zeros}

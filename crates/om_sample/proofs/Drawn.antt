@@ -1,22 +1,21 @@
 -- Events that are drawn leg by leg.
-use Rattle.std.proofs.Common.{◌≡◌, ℕ, suc, ◌+◌, ◌-◌, ◌*◌, ◌<◌, ◌≤◌, List, [], ◌∷◌, ◌++◌, length, take, map, get_or, set, replicate, refl, ap, ap₂, sym, ◌∙◌, arith}
-use Rattle.std.specs.Prelude.{slice_get, slice_set}
+use Rattle.std.proofs.Common.{◌≡◌, ℕ, suc, ◌+◌, ◌-◌, ◌*◌, ◌<◌, ◌≤◌, List, [], ◌∷◌, ◌++◌, length, take, map, get_or, refl, ap, ap₂, sym, ◌∙◌, arith}
+use Rattle.std.specs.Prelude.{slice_set}
 use Rattle.std.proofs.Math.Seq.{map-set_same}
 use Rattle.std.proofs.lemmas.Option.{slice_get-get_or}
 use Rattle.std.proofs.lemmas.List.{get_or-map, get_or-replicate, length-map, length-replicate, length-set, map-append, take_all, take_more_set}
-use Rattle.om_ring.specs.Ops.{Ops, Laws, number_of}
+use Rattle.om_ring.specs.Ops.{Ops, Laws}
 use Rattle.om_ring.proofs.SumLemmas.{sum_over-push}
 use Rattle.om_lorentz.specs.declared.vectors.Four.{Four}
 use Rattle.om_lorentz.specs.Matrices.{upper}
 use Rattle.om_kernel.specs.declared.waves.Wave.{Wave}
 use Rattle.om_kernel.specs.declared.waves.Wave.TheVariants.{Scalar}
-use Rattle.om_kernel.specs.Waves.{Kind, a_scalar, kind_of}
+use Rattle.om_kernel.specs.Waves.{a_scalar, kind_of}
 use Rattle.om_model.specs.Diagram.{upto}
-use Rattle.om_model.specs.Entries.{four_of}
 use Rattle.om_code.specs.Waves.{Incoming, minus_four, plus_four, zero_four}
 use Rattle.om_machine.specs.Events.{HasKindAt}
 use Rattle.om_machine.proofs.WaveForms.{four-eq}
-use Rattle.om_sample.specs.Generator.{draw, state_after}
+use Rattle.om_sample.specs.Generator.{state_after}
 use Rattle.om_sample.specs.Events.{IsOfScalars, drawn, drawn_event, drawn_momenta, drawn_momentum, drawn_wave, drawn_waves, sum_of_momenta}
 use Rattle.om_sample.proofs.Draws.{later_drawn}
 

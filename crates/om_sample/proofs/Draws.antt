@@ -1,8 +1,7 @@
 -- The states of the generator, one behind the other.
-use Rattle.std.proofs.Common.{◌≡◌, ℕ, zero, suc, ◌+◌, ◌-◌, ◌*◌, ◌/◌, ◌%◌, ◌^◌, refl, ap, sym, ◌∙◌, arith}
+use Rattle.std.proofs.Common.{◌≡◌, ℕ, zero, suc, ◌+◌, ◌*◌, ◌/◌, ◌%◌, ◌^◌, refl, ap, sym, ◌∙◌, arith}
 use Rattle.std.proofs.Math.Nat.{mod-add-mod}
 use Rattle.om_ring.specs.Ops.{Ops, number_of}
-use Rattle.om_lorentz.specs.declared.vectors.Four.{Four}
 use Rattle.om_machine.proofs.WaveForms.{four-eq}
 use Rattle.om_sample.specs.Generator.{draw, next_state, state_after}
 use Rattle.om_sample.specs.Events.{drawn, drawn_momentum}

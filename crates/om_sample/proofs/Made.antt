@@ -1,5 +1,5 @@
 -- The events of a sample are made for the codes of its process.
-use Rattle.std.proofs.Common.{◌≡◌, ℕ, zero, suc, ◌+◌, ◌-◌, ◌*◌, ◌≤◌, List, [], ◌∷◌, ◌++◌, length, map, replicate, refl, ap, sym, ◌∙◌, arith}
+use Rattle.std.proofs.Common.{◌≡◌, ℕ, zero, suc, ◌+◌, ◌-◌, ◌≤◌, [], ◌∷◌, ◌++◌, length, map, replicate, refl, ap, sym, ◌∙◌, arith}
 use Rattle.std.proofs.lemmas.List.{length-append, length-map, map-append, replicate-append-replicate}
 use Rattle.om_ring.specs.Ops.{Ops}
 use Rattle.om_kernel.specs.Waves.{a_scalar, kind_of}
@@ -8,8 +8,7 @@ use Rattle.om_model.proofs.Counting.{length-upto}
 use Rattle.om_code.specs.Waves.{Incoming}
 use Rattle.om_code.specs.declared.code.Code.{Code}
 use Rattle.om_machine.specs.Events.{IsMadeFor}
-use Rattle.om_sample.specs.Generator.{state_after}
-use Rattle.om_sample.specs.Events.{HasScalarLegs, IsOfScalars, draws_of_event, drawn_event, drawn_momenta, drawn_momentum, drawn_wave, drawn_waves, sample_event}
+use Rattle.om_sample.specs.Events.{HasScalarLegs, IsOfScalars, drawn_event, drawn_momenta, drawn_momentum, drawn_wave, drawn_waves}
 
 pub of_scalars : {E : Type 0} (c : Code) (e : Incoming E) → HasScalarLegs c → IsMadeFor c e → IsOfScalars (length c.legs) e
 of_scalars c e s m = record { momenta = m.momenta; waves = m.waves ∙ s }

@@ -1,5 +1,5 @@
 -- The model and the process of a sample.
-use Rattle.std.specs.Prelude.{ℕ, zero, ◌-◌, true, false, codes, List, [], ◌∷◌, replicate}
+use Rattle.std.specs.Prelude.{ℕ, ◌-◌, true, false, codes, [], ◌∷◌, replicate}
 use Rattle.std.proofs.Math.Nat.{zero-lt-suc}
 use Rattle.om_ring.specs.Ops.{Ops}
 use Rattle.om_ring.specs.declared.numeral.Numeral.{Numeral}

@@ -1,9 +1,9 @@
 use Rattle.std.specs.Prelude.{slice_set}
-use Rattle.std.proofs.Common.{◌≡◌, ◌+◌, ◌*◌, ◌-◌, ◌<◌, ◌≤◌, ℕ, ap, subst, sym, ◌∙◌, refl, arith, rules}
-use Rattle.om_ring.specs.Ops.{Laws, laws_from}
+use Rattle.std.proofs.Common.{◌≡◌, ◌+◌, ◌*◌, ◌-◌, ◌<◌, ◌≤◌, ap, subst, sym, ◌∙◌, arith}
+use Rattle.om_ring.specs.Ops.{laws_from}
 use Rattle.om_kernel.specs.declared.waves.Wave.TheVariants.{Scalar}
 use Rattle.om_lorentz.specs.declared.vectors.Four.{Four}
-use Rattle.om_sample.specs.Generator.{next_state, state_after}
+use Rattle.om_sample.specs.Generator.{state_after}
 use Rattle.om_sample.specs.Events.{draws_of_event, drawn}
 use Rattle.om_sample.proofs.Draws.{and_then, none_drawn, later_drawn}
 use Rattle.om_sample.proofs.Drawn.{IsDrawn, all_drawn, has_place, keeps_scalars, leg_drawn, momentum_from, none_drawn_yet, wave_from}

@@ -1,6 +1,5 @@
-use Rattle.std.proofs.Common.{◌≡◌, ◌+◌, ◌-◌, [], ◌∷◌, ◌++◌, ℕ, true, false, replicate, ap, ap₂, sym, ◌∙◌, arith}
+use Rattle.std.proofs.Common.{◌≡◌, ◌+◌, ◌-◌, [], ◌∷◌, ◌++◌, replicate, ap, ap₂, ◌∙◌, arith}
 use Rattle.std.proofs.lemmas.List.{replicate-append-replicate}
-use Rattle.om_model.specs.declared.process.Leg.{Leg}
 use Rattle.om_sample.specs.Model.{incoming_leg, outgoing_leg}
 use Rattle.om_sample.proofs.model.sample_process.Goals as goal
 

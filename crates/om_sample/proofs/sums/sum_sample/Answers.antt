@@ -1,15 +1,11 @@
-use Rattle.std.proofs.Common.{◌≡◌, ◌≤◌, ◌+◌, ◌*◌, ℕ, length, ap, ap₂, subst, sym, ◌∙◌, refl, arith}
-use Rattle.std.specs.Prelude.{Some, None, Option}
+use Rattle.std.proofs.Common.{◌≡◌, ◌≤◌, ◌+◌, ◌*◌, length, ap, ap₂, subst, sym, ◌∙◌, refl, arith}
 use Rattle.om_ring.specs.Ops.{laws_from}
-use Rattle.om_model.specs.FeynmanRules.{Table}
 use Rattle.om_model.specs.Event.{Balances}
 use Rattle.om_code.specs.Meaning.{IsMeaning, MachineAnswer}
 use Rattle.om_code.specs.Meaning.MachineAnswer.{pole, unbalanced, values}
 use Rattle.om_code.specs.Waves.{event_of}
 use Rattle.om_code.specs.declared.code.Code.{Code}
 use Rattle.om_machine.specs.Bound.{part}
-use Rattle.om_machine.specs.Events.{IsMadeFor}
-use Rattle.om_machine.specs.Loaded.{answer_of}
 use Rattle.om_machine.specs.Machines.{table_of}
 use Rattle.om_machine.specs.Momenta.{table_from}
 use Rattle.om_sample.specs.Generator.{state_after}
