@@ -5,7 +5,6 @@ ghost use Rattle.om_kernel.specs.IndexSums.{Fits, FitsAll, slot_kind};
 ghost use Rattle.om_kernel.specs.Waves.{held_kind};
 
 use crate::test_waves::{component, four};
-use crate::vertices::last_slot;
 use crate::waves::{Slot, Slots, Wave};
 use crate::{close, fuse};
 use om_lorentz::{Factors, Four, Momenta, Reading, Structure, entry};
@@ -260,7 +259,7 @@ fn takes(structure: Structure, slots: [u8; 4], fusing: [u64; 4], closing: u64) -
     requires reads { IsReading structure (record { slots = slots }) }
 {
     let reading = Reading { slots };
-    for hole in 1..last_slot(structure) + 1 {
+    for hole in 1..structure.slot_count() + 1 {
         if fused_calls(structure, reading, hole) != Some(fusing[(hole - 1) as usize]) {
             return false;
         }
