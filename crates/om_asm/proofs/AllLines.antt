@@ -1,5 +1,5 @@
 -- What holds of the lines of each group of a program holds of all its lines.
-use Rattle.std.proofs.Common.{ℕ, List, [], ◌∷◌, ◌++◌, map}
+use Rattle.std.proofs.Common.{List, [], ◌∷◌, ◌++◌, map}
 use Rattle.std.specs.List.{AllByRecursion}
 use Rattle.om_code.specs.declared.code.Code.{Code}
 use Rattle.om_program_text.specs.ProgramText.{Words, version_words, model_words, particle_words, vertex_words, leg_words, flow_words, den_words, slots_lines, instr_words, end_words, program_lines}
