@@ -1,5 +1,5 @@
 -- What holds of the lines of each group of a program holds of all its lines.
-use Rattle.std.proofs.Common.{ℕ, List, [], ◌∷◌, ◌++◌, map}
+use Rattle.std.proofs.Common.{List, [], ◌∷◌, ◌++◌, map}
 use Rattle.std.specs.List.{AllByRecursion}
 use Rattle.om_code.specs.declared.code.Code.{Code}
 use Rattle.om_io.specs.Lines.{Words}

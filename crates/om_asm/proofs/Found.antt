@@ -1,5 +1,5 @@
 -- A text that is read is the text of its code.
-use Rattle.std.proofs.Common.{◌≡◌, ℕ, ◌<◌, eqb, Bool, true, false, cond, List, [], ◌∷◌, ◌++◌, length, map, codes, decimal, Result, Ok, Err, sym, ap, subst, ◌∙◌, arith}
+use Rattle.std.proofs.Common.{◌≡◌, ℕ, ◌<◌, eqb, Bool, true, false, cond, List, [], ◌∷◌, length, map, codes, decimal, Result, Ok, Err, sym, ap, subst, ◌∙◌, arith}
 use Rattle.std.specs.Prelude.{IfOk}
 use Rattle.om_code.specs.declared.code.Code.{Code}
 use Rattle.om_code.specs.declared.code.Instr.{Instr}
@@ -7,7 +7,7 @@ use Rattle.om_code.specs.declared.code.Instr.TheVariants.{Load, Fuse, Prop, Key}
 use Rattle.om_code.specs.Plain.{IsPlain}
 use Rattle.om_asm.specs.declared.fault.AsmFault.{AsmFault}
 use Rattle.om_io.specs.Lines.{Words, lines_text}
-use Rattle.om_program_text.specs.ProgramText.{version_words, model_words, particle_words, vertex_words, leg_words, flow_words, den_words, slots_lines, instr_words, end_words, program_lines, program_text}
+use Rattle.om_program_text.specs.ProgramText.{particle_words, vertex_words, leg_words, flow_words, den_words, slots_lines, instr_words, program_lines, program_text}
 use Rattle.om_asm.specs.Lines.{At, lines_of}
 use Rattle.om_asm.specs.Rows.{GivesNothing, place}
 use Rattle.om_asm.specs.Program.{program_at, program_of}

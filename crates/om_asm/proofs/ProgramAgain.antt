@@ -22,7 +22,7 @@ use Rattle.om_asm.specs.Vertices.{vertex_row}
 use Rattle.om_asm.specs.Flows.{flow_line}
 use Rattle.om_asm.specs.Rows.{BadLine, place, formed, instrs_at}
 use Rattle.om_ring.specs.ResultSteps.{◌>>=◌}
-use Rattle.om_asm.specs.Program.{one_line, rows_at, particles_at, slots_at, end_at, process_at, slots_number, program_at}
+use Rattle.om_asm.specs.Program.{rows_at, end_at, process_at, slots_number, program_at}
 use Rattle.om_asm.proofs.RowLaws.{AllAgain, rows_again, Stops}
 use Rattle.om_asm.proofs.LinesAgain.{particle_again, leg_again, den_again}
 use Rattle.om_asm.proofs.WordsAgain.{flow_line_again}

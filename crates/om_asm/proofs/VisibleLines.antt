@@ -1,5 +1,5 @@
 -- The lines of a code have words, and these are visible.
-use Rattle.std.proofs.Common.{◌≡◌, ℕ, ◌+◌, ◌-◌, ◌^◌, ◌<◌, ◌⊎◌, eqb, Bool, true, false, cond, List, [], ◌∷◌, ◌++◌, length, map, codes, decimal, Result, Ok, refl, sym, ap, subst, ◌∙◌, arith, inl, inr}
+use Rattle.std.proofs.Common.{◌≡◌, ℕ, ◌+◌, ◌-◌, ◌^◌, ◌<◌, ◌⊎◌, eqb, Bool, true, false, cond, List, [], ◌∷◌, length, map, codes, decimal, Result, Ok, refl, sym, ap, subst, ◌∙◌, arith, inl, inr}
 use Rattle.std.specs.List.{AllByRecursion}
 use Rattle.om_ring.specs.declared.numeral.Numeral.{Numeral}
 use Rattle.om_colour.specs.declared.Flow.{Flow}
@@ -15,7 +15,7 @@ use Rattle.om_asm.specs.declared.fault.AsmFault.{AsmFault}
 use Rattle.om_ring.specs.Numerals.{NumeralFits}
 use Rattle.om_asm.specs.InRange.{ParticleInRange, VertexInRange, InstrInRange, CodeInRange}
 use Rattle.om_io.specs.Lines.{Words}
-use Rattle.om_program_text.specs.ProgramText.{version_words, model_words, particle_words, vertex_words, leg_words, flow_words, den_words, slots_lines, instr_words, end_words, program_lines, program_text}
+use Rattle.om_program_text.specs.ProgramText.{version_words, particle_words, vertex_words, leg_words, flow_words, den_words, instr_words, program_lines, program_text}
 use Rattle.om_model.specs.TermText.{place_word}
 use Rattle.om_program_text.specs.Words.{product_word}
 use Rattle.om_asm.specs.Lines.{At, lines_of}

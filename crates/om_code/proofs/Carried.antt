@@ -1,8 +1,7 @@
 -- Slots are filled alike whatever the parts carry.
-use Rattle.std.proofs.Common.{◌≡◌, ℕ, List, [], ◌∷◌, ◌++◌, map, Bool, true, false, cond, eqb, ltb, refl, sym, ◌∙◌, ap, ap₂}
-use Rattle.std.proofs.lemmas.List.{map-append}
-use Rattle.om_model.specs.Parts.{Part, put, sort}
-use Rattle.om_model.specs.Slots.{first_with, without_first, fill}
+use Rattle.std.proofs.Common.{◌≡◌, ℕ, List, map, sym, ◌∙◌, ap}
+use Rattle.om_model.specs.Parts.{Part, sort}
+use Rattle.om_model.specs.Slots.{fill}
 use Rattle.om_model.proofs.Filling.{carry, fill-map, sort-map}
 use Rattle.om_legs.specs.Legs.{least}
 use Rattle.om_code.specs.Vertices.{part_of, sorted_into}

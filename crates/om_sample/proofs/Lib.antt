@@ -1,0 +1,7 @@
+pub mod Draws
+pub mod Drawn
+pub mod Adding
+pub mod CodeSums
+pub mod Balance
+pub mod Accepted
+pub mod Made

@@ -1,0 +1,5 @@
+pub mod Generator
+pub mod Model
+pub mod Events
+pub mod Sums
+pub mod Texts
