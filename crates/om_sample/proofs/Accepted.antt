@@ -14,7 +14,7 @@ use Rattle.om_model.specs.declared.rules.Table.TheVariants as table
 use Rattle.om_sample.specs.Model.{sample_model, sample_particle, sample_vertex, whole}
 
 -- a list with one row
-one_row : {A : Type 0} (x y : A) (k : ℕ) → slice_get (x ∷ []) k ≡ Some y → (k ≡ 0) × (y ≡ x)
+pub one_row : {A : Type 0} (x y : A) (k : ℕ) → slice_get (x ∷ []) k ≡ Some y → (k ≡ 0) × (y ≡ x)
 one_row x y zero h = (refl, cc)
 one_row x y (suc k) h = absurd (let none = slice_get_past (x ∷ []) (suc k) (omega arith) in cc)
 

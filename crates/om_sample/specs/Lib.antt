@@ -3,3 +3,5 @@ pub mod Model
 pub mod Events
 pub mod Sums
 pub mod Texts
+pub mod NoLines
+pub mod Laws

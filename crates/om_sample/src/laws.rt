@@ -1,5 +1,6 @@
 //! The laws that callers may rely on. Each is the contract of an empty function.
 ghost use Rattle.om_sample.specs.Events.{SamplesBalance};
+ghost use Rattle.om_sample.specs.Laws.{SampleHasOneFlow, SampleProcessFits};
 ghost use Rattle.om_sample.specs.Model.{SampleModelIsAccepted};
 ghost use Rattle.om_sample.specs.Sums.{SamplesByCode};
 
@@ -25,3 +26,13 @@ pub fn samples_by_code<R: Ring>(ring: &R)
 {
     let _ring = ring;
 }
+
+/// The process of a sample is one over its model, with 3 to 12 legs.
+pub fn sample_process_fits()
+    ensures { SampleProcessFits }
+{}
+
+/// The diagrams over the model of a sample have one flow at most.
+pub fn sample_has_one_flow()
+    ensures { SampleHasOneFlow }
+{}
