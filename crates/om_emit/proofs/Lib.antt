@@ -24,3 +24,4 @@ pub mod HeldNodes
 pub mod SplitHelds
 pub mod GraphHelds
 pub mod DenPlaces
+pub mod GraphRules
