@@ -74,7 +74,7 @@ first_left_is slots fields f (x ∷ xs) e i = by (same_numbers (x ∷ fields) sl
 left_is : (slots fields : List ℕ) (f : ℕ) → same_numbers (f ∷ fields) slots ≡ true → left_field slots fields ≡ Some f
 left_is slots fields f e = first_left_is slots fields f slots e (in_of_times f slots (subst (λ n. 0 < n) (same_times (f ∷ fields) slots e f) (times_of_in f (f ∷ fields) (inl refl))))
 
-half : (n s : ℕ) → is_outward n s ≡ true → 2 * size s ≤ n
+pub half : (n s : ℕ) → is_outward n s ≡ true → 2 * size s ≤ n
 half n s e = ⊎_elim
     (λ (t : ltb (2 * size s) n ≡ true). let l : 2 * size s < n = grind (arith, nat_tests) in omega arith)
     (λ t. let q : eqb (2 * size s) n ≡ true = (both (eqb (2 * size s) n) (not (holds s 1)) t).0 in let l : 2 * size s ≡ n = grind (arith, nat_tests) in omega arith)

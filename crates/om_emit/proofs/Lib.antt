@@ -25,3 +25,4 @@ pub mod SplitHelds
 pub mod GraphHelds
 pub mod DenPlaces
 pub mod GraphRules
+pub mod RowsPlain

@@ -1,5 +1,6 @@
 use Rattle.om_emit.proofs.GraphHelds.{fuse_keeps}
 use Rattle.om_emit.proofs.GraphRules.{all_keep}
+use Rattle.om_emit.proofs.RowsPlain.{dens_keep}
 use Rattle.om_emit.proofs.laws.codes_are_verified.Goals as goal
 
 pub returns : goal.returns
