@@ -26,3 +26,5 @@ pub mod GraphHelds
 pub mod DenPlaces
 pub mod GraphRules
 pub mod RowsPlain
+pub mod ProgramParts
+pub mod PlainInstrs
