@@ -28,3 +28,4 @@ pub mod GraphRules
 pub mod RowsPlain
 pub mod ProgramParts
 pub mod PlainInstrs
+pub mod LineEnds
