@@ -203,7 +203,7 @@ module _ (m : Model) (p : Process) (formed : IsWellFormed m) (is : IsProcessOf m
       by (leaf j) h = record { leg = j; low = h.0; high = h.1; is_leg = h.2 }
       by (join f v c bs) h = absurd (let many = fused_some r f v c h.0 node h.2 in let inner : is_inner node ≡ true = grind (arith, nat_tests) in true≢false (sym inner ∙ leg))
 
-  fields_at : (legs : List Leg) (k : ℕ) → slice_index_or (map (λ (leg : Leg). leg.field) legs) k 0 ≡ field_of_leg (slice_get legs k)
+  pub fields_at : (legs : List Leg) (k : ℕ) → slice_index_or (map (λ (leg : Leg). leg.field) legs) k 0 ≡ field_of_leg (slice_get legs k)
   fields_at [] k = refl
   fields_at (leg ∷ legs) zero = refl
   fields_at (leg ∷ legs) (suc k) = fields_at legs k

@@ -29,3 +29,5 @@ pub mod RowsPlain
 pub mod ProgramParts
 pub mod PlainInstrs
 pub mod LineEnds
+pub mod NodeLines
+pub mod FlowRules
