@@ -31,3 +31,4 @@ pub mod PlainInstrs
 pub mod LineEnds
 pub mod NodeLines
 pub mod FlowRules
+pub mod CodesVerified

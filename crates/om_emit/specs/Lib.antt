@@ -6,4 +6,3 @@ pub mod NodeContents
 pub mod EdgesAbove
 pub mod Counts
 pub mod Laws
-pub mod CodesVerified
