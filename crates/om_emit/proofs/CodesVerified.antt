@@ -1,5 +1,5 @@
 -- The code of a canonical graph is verified.
-use Rattle.std.proofs.Common.{◌≡◌, ℕ, ◌^◌, ◌<◌, ◌≤◌, List, ◌++◌, length, map, Bool, cond, eqb, inr, sym, ◌∙◌, ap, subst, arith}
+use Rattle.std.proofs.Common.{ℕ, ◌^◌, ◌<◌, length, inr, sym, ap, subst, arith}
 use Rattle.std.specs.List.{AllByRecursion}
 use Rattle.om_model.specs.ProcessOf.{IsProcessOf}
 use Rattle.om_model.specs.WellFormed.{IsWellFormed}
@@ -9,12 +9,11 @@ use Rattle.om_graph.specs.declared.Graph.{Graph}
 use Rattle.om_graph.specs.Reactions.{reaction_of}
 use Rattle.om_keystone.specs.CanonicalGraph.{IsCanonicalOf}
 use Rattle.om_code.specs.declared.code.Code.{Code}
-use Rattle.om_code.specs.Ops.{Op, op_of, placed_op}
 use Rattle.om_code.specs.Plain.{AreSlots, InParts, IsPlain, IsPlainInstr, IsPlainParticle, IsPlainVertex}
 use Rattle.om_code.specs.SlotPlans.{first_fit}
 use Rattle.om_code.specs.Verified.{IsVerified}
 use Rattle.om_emit.specs.Counts.{CountsNodes}
-use Rattle.om_emit.specs.GraphCode.{IsCodeOf, den_place, key_op, nodes_ops, register_lines, register_ops}
+use Rattle.om_emit.specs.GraphCode.{IsCodeOf, den_place, register_lines, register_ops}
 use Rattle.om_emit.proofs.FlowRules.{flows_keep, plain_flows}
 use Rattle.om_emit.proofs.GraphHelds.{as_many_legs}
 use Rattle.om_emit.proofs.GraphRules.{slots_few, slots_small}

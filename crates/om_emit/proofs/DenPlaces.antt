@@ -1,16 +1,14 @@
 -- The denominators of a canonical graph: their places, and that each is one of an inner edge.
-use Rattle.std.proofs.Common.{◌≡◌, ℕ, zero, suc, ◌+◌, ◌-◌, ◌*◌, ◌<◌, ◌≤◌, List, [], ◌∷◌, length, map, Bool, true, false, cond, eqb, ltb, ◌&&◌, ◌||◌, not, leb, ⊎_elim, ◌⊎◌, inl, inr, refl, sym, ◌∙◌, ap, ap₂, subst, arith, true≢false}
-use Rattle.std.specs.Prelude.{Option, Some, None, slice_get, nat_lt, nat_le, ◌==◌, if◌then◌else◌}
-use Rattle.std.specs.List.{AllByRecursion, position_or_len}
+use Rattle.std.proofs.Common.{◌≡◌, ℕ, zero, suc, ◌+◌, ◌-◌, ◌<◌, ◌≤◌, List, [], ◌∷◌, length, Bool, true, false, cond, ◌&&◌, not, leb, inl, inr, refl, sym, ◌∙◌, ap, ap₂, arith, true≢false}
+use Rattle.std.specs.Prelude.{Option, Some, slice_get, ◌==◌, if◌then◌else◌}
 use Rattle.std.specs.List.Sorted.{IsStrictlySortedBy}
 use Rattle.std.specs.Ordering.{is_eq, ordering_reverse}
 use Rattle.std.specs.declared.cmp.Ordering.{Ordering}
 use Rattle.std.specs.declared.cmp.Ordering.TheVariants.{Less, Equal, Greater}
-use Rattle.std.specs.BTreeMap.{is_at}
 use Rattle.std.proofs.lemmas.Bool.Decides.{nat_tests}
 use Rattle.std.proofs.lemmas.Option.{same_Some, slice_get_within, none-some}
 use Rattle.om_ring.specs.Members.{In}
-use Rattle.om_legs.specs.Legs.{IsLegSet, IsSubset, all_legs, complement, holds, legs_of, minus, set_of, size}
+use Rattle.om_legs.specs.Legs.{IsLegSet, all_legs, complement, holds, legs_of, minus, set_of, size}
 use Rattle.om_legs.proofs.Bits.{same_sets, leg_range}
 use Rattle.om_legs.proofs.Least.{IsSubset_from}
 use Rattle.om_legs.proofs.LegLists.{holds_none}

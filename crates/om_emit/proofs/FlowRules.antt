@@ -1,6 +1,6 @@
 -- The flows of a canonical graph keep the rules of programs.
-use Rattle.std.proofs.Common.{◌≡◌, ◌≢◌, ℕ, zero, suc, ◌+◌, ◌-◌, ◌<◌, ◌≤◌, List, [], ◌∷◌, length, map, get_or, Bool, true, false, cond, eqb, leb, ltb, not, ◌&&◌, ◌⊎◌, inl, inr, ⊎_elim, refl, sym, ◌∙◌, ap, ap₂, subst, arith, true≢false, Option, None, Some, slice_get}
-use Rattle.std.specs.Prelude.{slice_index, slice_index_or, nat_lt, IsTrue}
+use Rattle.std.proofs.Common.{◌≡◌, ℕ, zero, suc, ◌+◌, ◌-◌, ◌<◌, ◌≤◌, List, [], ◌∷◌, length, map, Bool, true, false, cond, eqb, leb, not, ◌&&◌, inl, inr, ⊎_elim, refl, sym, ◌∙◌, ap, ap₂, subst, arith, true≢false, Some, slice_get}
+use Rattle.std.specs.Prelude.{slice_index, nat_lt}
 use Rattle.std.specs.List.{AllByRecursion}
 use Rattle.std.specs.Ordering.{is_lt, nat_cmp}
 use Rattle.std.specs.Cmp.Lexicographic.{slice_cmp}
@@ -17,16 +17,14 @@ use Rattle.om_colour.specs.declared.Choice.{Choice}
 use Rattle.om_colour.specs.declared.Flow.{Flow}
 use Rattle.om_colour.specs.declared.SlotPartials.{SlotPartials}
 use Rattle.om_colour.specs.Choices.{goes_to}
-use Rattle.om_colour.specs.Lines.{IsSlot, ends_line, starts_line}
-use Rattle.om_colour.specs.Order.{flow_order}
-use Rattle.om_colour.specs.Partials.{Fits, closed, end_at, into_at, joined_end, no_hole, part_at}
+use Rattle.om_colour.specs.Lines.{ends_line, starts_line}
+use Rattle.om_colour.specs.Partials.{Fits, end_at, into_at, joined_end, no_hole, part_at}
 use Rattle.om_colour.proofs.JoinedLines.{each_leg-at}
 use Rattle.om_colour.proofs.JoinedSound.{into_small, once_joined, target_is, way}
 use Rattle.om_model.specs.Diagram.{times_in}
 use Rattle.om_model.specs.FermionLines.{Kinds}
 use Rattle.om_model.specs.Model.{colour_of_field, field_of_leg}
 use Rattle.om_model.specs.ModelLines.{kinds_of}
-use Rattle.om_model.specs.Order.{Rising}
 use Rattle.om_model.specs.ProcessOf.{IsProcessOf}
 use Rattle.om_model.specs.WellFormed.{IsWellFormed}
 use Rattle.om_model.specs.declared.model.Model.{Model}
@@ -53,7 +51,7 @@ use Rattle.om_code.specs.declared.code.Code.{Code}
 use Rattle.om_code.specs.Plain.{IsPlainFlow}
 use Rattle.om_code.specs.Rules.{IsFlow, ends_at, is_leg_of_flow, size_of, starts_at}
 use Rattle.om_emit.specs.GraphCode.{IsCodeOf}
-use Rattle.om_emit.proofs.GraphHelds.{as_many_legs, fields_at}
+use Rattle.om_emit.proofs.GraphHelds.{as_many_legs}
 use Rattle.om_emit.proofs.HeldFinds.{and_both}
 use Rattle.om_emit.proofs.RowsPlain.{all_rows}
 use Rattle.om_emit.proofs.LineEnds.{IsExact}
@@ -76,9 +74,9 @@ closed_most q c fit k l = by (joined_end q c no_hole k) refl
         let w = way q c no_hole refl fit k (suc e) (omega arith) p in
         ⊎_elim
         (λ a. ⊎_elim
-            (λ b. absurd (let t : goes_to c w.slot ≡ 5 = b.0 in let m = fit.choice.slots w.slot w.is_slot in omega (arith, t, m)))
-            (λ b. let t : into_at (part_at q (goes_to c w.slot)) ≡ suc e = b.1 in let m = into_small q c no_hole refl fit (goes_to c w.slot) (fit.choice.slots w.slot w.is_slot) (omega (arith, t)) in omega (arith, t, m, p))
-            (target_is q c no_hole refl fit (goes_to c w.slot) (suc e) a.1))
+        (λ b. absurd (let t : goes_to c w.slot ≡ 5 = b.0 in let m = fit.choice.slots w.slot w.is_slot in omega (arith, t, m)))
+        (λ b. let t : into_at (part_at q (goes_to c w.slot)) ≡ suc e = b.1 in let m = into_small q c no_hole refl fit (goes_to c w.slot) (fit.choice.slots w.slot w.is_slot) (omega (arith, t)) in omega (arith, t, m, p))
+        (target_is q c no_hole refl fit (goes_to c w.slot) (suc e) a.1))
         (λ a. let t : end_at (part_at q w.slot) k ≡ suc e = a.0 in let m = (fit.sound w.slot w.is_slot).ends k l in let n = a.1 in omega (arith, t, m, n, p))
         w.way
 
@@ -91,7 +89,7 @@ module _ (r : Reaction) (kinds : Kinds) (is : IsReaction r kinds) where
       let q = slot_partials slots in
       let c = r.choice v ch in
       let times : (x : ℕ) → times_in x (r.scattering.theory.slots v) ≡ times_in x (fields (map (branch r) ks)) = λ x.
-          sym (same_times (vertices.fields_of ks) (r.scattering.theory.slots v) close.slots x) ∙ ap (times_in x) (sym (branch_fields r ks)) in
+      sym (same_times (vertices.fields_of ks) (r.scattering.theory.slots v) close.slots x) ∙ ap (times_in x) (sym (branch_fields r ks)) in
       let their = in_their_slots r v (map (branch r) ks) times in
       let long = their.long in
       let branches = length-map ks (branch r) in
@@ -223,18 +221,18 @@ module _ (m : Model) (p : Process) (formed : IsWellFormed m) (is : IsProcessOf m
         let two = both (holds (all_legs n) (k + 1)) (end (k + 1)) (sym (ends_same k) ∙ e) in
         let long = h.long in
         let some : 0 < times_in (k + 1) w.ends = ⊎_elim
-            (λ (j : (j : ℕ) × (j < 12) × (slice_index w.ends j ≡ k + 1)). times_of_in (k + 1) w.ends (subst (λ x. In x w.ends) j.2 (in_at w.ends j.0 (let lj = j.1 in omega (arith, lj, long)))))
-            (λ (q : 0 ≡ k + 1). absurd (omega (arith, q)))
-            (h.exact.finish k l two.0 two.1) in
+        (λ (j : (j : ℕ) × (j < 12) × (slice_index w.ends j ≡ k + 1)). times_of_in (k + 1) w.ends (subst (λ x. In x w.ends) j.2 (in_at w.ends j.0 (let lj = j.1 in omega (arith, lj, long)))))
+        (λ (q : 0 ≡ k + 1). absurd (omega (arith, q)))
+        (h.exact.finish k l two.0 two.1) in
         let few = times_once (k + 1) w.ends (λ i j li lj a b. h.once i j (omega (arith, li, long)) (omega (arith, lj, long)) (omega (arith, a)) (a ∙ sym b)) in
         grind (arith, nat_tests)
     ends_right k l false e =
         let long = h.long in
         let none = none_times (k + 1) w.ends (λ i.
-            let j = place_in (k + 1) w.ends i in
-            let lj = j.1 in
-            let two = h.exact.finished (k + 1) (omega arith) (omega (arith, l)) (inl (j.0, omega (arith, lj, long), j.2)) in
-            true≢false (sym (and_both (holds (all_legs n) (k + 1)) (end (k + 1)) two.0 two.1) ∙ sym (ends_same k) ∙ e)) in
+        let j = place_in (k + 1) w.ends i in
+        let lj = j.1 in
+        let two = h.exact.finished (k + 1) (omega arith) (omega (arith, l)) (inl (j.0, omega (arith, lj, long), j.2)) in
+        true≢false (sym (and_both (holds (all_legs n) (k + 1)) (end (k + 1)) two.0 two.1) ∙ sym (ends_same k) ∙ e)) in
         grind (arith, nat_tests)
 
     leg_right : (k : ℕ) → k < 12 → is_leg_of_flow c w.ends k ≡ true

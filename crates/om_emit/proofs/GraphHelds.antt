@@ -1,13 +1,13 @@
 -- The vertices of a canonical graph make what the rules of programs ask for.
-use Rattle.std.proofs.Common.{◌≡◌, ℕ, zero, suc, ◌+◌, ◌-◌, ◌*◌, ◌<◌, ◌≤◌, List, [], ◌∷◌, length, map, Bool, true, false, cond, eqb, ltb, ◌&&◌, ◌||◌, not, ⊎_elim, inl, inr, refl, sym, ◌∙◌, ap, ap₂, subst, arith, true≢false}
-use Rattle.std.specs.Prelude.{Option, Some, None, slice_get, slice_index_or, nat_lt, ◌==◌}
+use Rattle.std.proofs.Common.{◌≡◌, ℕ, zero, suc, ◌+◌, ◌-◌, ◌*◌, ◌<◌, ◌≤◌, List, [], ◌∷◌, length, map, Bool, true, false, cond, eqb, ltb, ◌&&◌, not, ⊎_elim, inl, inr, refl, sym, ◌∙◌, ap, ap₂, subst, arith, true≢false}
+use Rattle.std.specs.Prelude.{Option, Some, slice_get, slice_index_or, nat_lt, ◌==◌}
 use Rattle.std.specs.List.{AllByRecursion}
 use Rattle.std.proofs.lemmas.Bool.{eqb-true}
 use Rattle.std.proofs.lemmas.Bool.Decides.{nat_tests}
 use Rattle.std.proofs.lemmas.List.{length-map}
 use Rattle.std.proofs.lemmas.Option.{same_Some, slice_get_within}
 use Rattle.om_ring.specs.Members.{In}
-use Rattle.om_legs.specs.Legs.{IsLegSet, all_legs, holds, least, set_of_one, size}
+use Rattle.om_legs.specs.Legs.{all_legs, holds, least, set_of_one, size}
 use Rattle.om_legs.proofs.Operations.{IsLegSet-all_legs}
 use Rattle.om_model.specs.Diagram.{same_numbers, times_in}
 use Rattle.om_model.specs.FermionLines.{Kinds}

@@ -1,7 +1,7 @@
 -- The instructions of the code of a canonical graph keep the rules.
-use Rattle.std.proofs.Common.{◌≡◌, ℕ, zero, suc, ◌+◌, ◌<◌, ◌≤◌, List, [], ◌∷◌, ◌++◌, length, map, replicate, Bool, true, false, cond, eqb, refl, sym, ◌∙◌, ap, ap₂, subst, arith}
+use Rattle.std.proofs.Common.{◌≡◌, ℕ, zero, suc, ◌+◌, ◌<◌, ◌≤◌, List, [], ◌∷◌, ◌++◌, length, map, replicate, Bool, true, false, cond, eqb, refl, sym, ◌∙◌, ap, subst, arith}
 use Rattle.std.specs.Prelude.{Some, slice_get}
-use Rattle.std.specs.List.{AllByRecursion, concat, filter}
+use Rattle.std.specs.List.{concat, filter}
 use Rattle.std.proofs.lemmas.List.{get_or-replicate, length-append, length-map, length-replicate}
 use Rattle.std.proofs.lemmas.Option.{same_Some, none-some}
 use Rattle.om_ring.specs.Members.{In}
@@ -21,25 +21,23 @@ use Rattle.om_keystone.specs.Built.{is_inner, terms_at, NodeIsBuilt, NodesAreBui
 use Rattle.om_keystone.specs.CanonicalGraph.{IsCanonicalOf}
 use Rattle.om_keystone.proofs.BuiltGraph.{canonical_is_built}
 use Rattle.om_code.specs.declared.code.Code.{Code}
-use Rattle.om_code.specs.declared.code.Den.{Den}
 use Rattle.om_code.specs.declared.code.Instr.{Instr}
 use Rattle.om_code.specs.declared.slots.Held.{Held}
-use Rattle.om_code.specs.Contents.{NamesSlots}
-use Rattle.om_code.specs.Ops.{Op, fuse, load, prop, op_of, named_in, placed_op, step_of}
-use Rattle.om_code.specs.Registers.{State, Step, AreApart, Found, finds, placed, run, start}
+use Rattle.om_code.specs.Ops.{Op, load, prop, op_of, named_in, placed_op, step_of}
+use Rattle.om_code.specs.Registers.{Step, AreApart, Found, finds, placed, run, start}
 use Rattle.om_code.specs.Rules.{KeepsAll, is_den_of}
 use Rattle.om_code.specs.SlotPlans.{first_fit}
 use Rattle.om_code.specs.Slots.{at_start, is_gathering, nothing}
 use Rattle.om_code.specs.Spans.{spans_at, span_holds, width}
 use Rattle.om_code.proofs.FirstFit.{first_fit-narrow}
 use Rattle.om_code.proofs.SpanFacts.{greatest_le}
-use Rattle.om_emit.specs.GraphCode.{IsCodeOf, den_of, den_place, dens_of, fuse_op, key_op, graph_dens, node_ops, nodes_ops, register_lines, register_ops}
+use Rattle.om_emit.specs.GraphCode.{IsCodeOf, den_of, den_place, fuse_op, key_op, graph_dens, node_ops, nodes_ops, register_lines, register_ops}
 use Rattle.om_emit.proofs.DenEdges.{dens_are_edges_above}
 use Rattle.om_emit.proofs.DenPlaces.{den_is, place_there, place_within}
 use Rattle.om_emit.proofs.EmittedSums.{code_names_slots}
 use Rattle.om_emit.proofs.GraphCode.{graph_keeps_finds, placed_steps}
 use Rattle.om_emit.proofs.GraphHelds.{as_many_legs, key_terms_keep, node_leg_keeps, terms_keep}
-use Rattle.om_emit.proofs.HeldFinds.{Keeps, KeepEach, Shows, finds_keep, held_meaning, keep_placed, later, step}
+use Rattle.om_emit.proofs.HeldFinds.{KeepEach, finds_keep, held_meaning, keep_placed, later, step}
 use Rattle.om_emit.proofs.HeldNodes.{InnerKeeps, NodeKeeps, gathering_held, graph_keeps}
 use Rattle.om_emit.proofs.NamedNodes.{below_named, graph_below}
 

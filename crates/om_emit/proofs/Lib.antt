@@ -17,7 +17,6 @@ pub mod Emitted
 pub mod NodeFinds
 pub mod CodeSums
 pub mod EmittedSums
-pub mod NodeFine
 pub mod DenEdges
 pub mod HeldFinds
 pub mod HeldNodes

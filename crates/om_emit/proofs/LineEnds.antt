@@ -1,14 +1,13 @@
 -- Where colour lines begin and end, at a vertex from what is known behind its slots.
-use Rattle.std.proofs.Common.{◌≡◌, ◌≢◌, ℕ, zero, suc, ◌+◌, ◌<◌, ◌≤◌, Bool, true, false, cond, eqb, ◌&&◌, ◌⊎◌, inl, inr, ⊎_elim, refl, sym, ◌∙◌, ap, subst, arith, true≢false, None, Some}
+use Rattle.std.proofs.Common.{◌≡◌, ◌≢◌, ℕ, ◌+◌, ◌<◌, ◌≤◌, Bool, true, false, cond, eqb, ◌⊎◌, inl, inr, ⊎_elim, refl, sym, ◌∙◌, ap, subst, arith, true≢false, None}
 use Rattle.std.proofs.lemmas.Bool.Decides.{nat_tests}
 use Rattle.om_colour.specs.declared.Choice.{Choice}
-use Rattle.om_colour.specs.declared.Colour.{Colour}
 use Rattle.om_colour.specs.declared.SlotPartials.{SlotPartials}
 use Rattle.om_colour.specs.Choices.{goes_to}
-use Rattle.om_colour.specs.Lines.{IsSlot, ends_line, starts_line}
-use Rattle.om_colour.specs.Partials.{Fits, end_at, end_by_slot, end_through, into_at, joined_end, leg_partial, part_at, target_end}
+use Rattle.om_colour.specs.Lines.{IsSlot}
+use Rattle.om_colour.specs.Partials.{Fits, end_at, end_by_slot, end_through, into_at, joined_end, part_at, target_end}
 use Rattle.om_colour.proofs.Following.{either}
-use Rattle.om_colour.proofs.JoinedLines.{alone, each_leg-at, free_line, leaves}
+use Rattle.om_colour.proofs.JoinedLines.{alone, free_line, leaves}
 use Rattle.om_colour.proofs.JoinedSound.{Way, into_slot, target_is, way}
 use Rattle.om_colour.proofs.SlotLines.{first_at_slots_one}
 
@@ -133,9 +132,9 @@ module _ (begin end : ℕ → Bool) (q : SlotPartials) (c : Choice) (h : ℕ) (f
         by_way : (j : ℕ) → j < 12 → Way q c h free fit j e → (all e ≡ true) × (end e ≡ true)
         by_way j lj w = ⊎_elim
             (λ a. ⊎_elim
-                (λ b. absurd (let t : e ≡ 13 = b.1 in omega (arith, t, l)))
-                (λ b. let t : into (to w.slot) ≡ e = b.1 in at_part (to w.slot) (into_slot q c h free fit (to w.slot) (fit.choice.slots w.slot w.is_slot) (omega (arith, t, s))) b.0 (inr t))
-                (target_is q c h free fit (to w.slot) e a.1))
+            (λ b. absurd (let t : e ≡ 13 = b.1 in omega (arith, t, l)))
+            (λ b. let t : into (to w.slot) ≡ e = b.1 in at_part (to w.slot) (into_slot q c h free fit (to w.slot) (fit.choice.slots w.slot w.is_slot) (omega (arith, t, s))) b.0 (inr t))
+            (target_is q c h free fit (to w.slot) e a.1))
             (λ a. let t : line w.slot j ≡ e = a.0 in at_part w.slot w.is_slot (not_hole w.slot j (omega (arith, t, s))) (inl (j, lj, t)))
             w.way
 
@@ -145,13 +144,13 @@ module _ (begin end : ℕ → Bool) (q : SlotPartials) (c : Choice) (h : ℕ) (f
         by : Way q c h free fit k (k + 1) → ⊥
         by w = ⊎_elim
             (λ a. ⊎_elim
-                (λ b. let t : k + 1 ≡ 13 = b.1 in omega (arith, t, l))
-                (λ b.
-                    let t : into (to w.slot) ≡ k + 1 = b.1 in
-                    let out : line w.slot k ≡ 13 = a.0 in
-                    let i = into_slot q c h free fit (to w.slot) (fit.choice.slots w.slot w.is_slot) (omega (arith, t)) in
-                    fit.apart w.slot (to w.slot) k w.is_slot i (fit.choice.away w.slot w.is_slot) l (inl (omega (arith, out))) (inr (inr t)))
-                (target_is q c h free fit (to w.slot) (k + 1) a.1))
+            (λ b. let t : k + 1 ≡ 13 = b.1 in omega (arith, t, l))
+            (λ b.
+            let t : into (to w.slot) ≡ k + 1 = b.1 in
+            let out : line w.slot k ≡ 13 = a.0 in
+            let i = into_slot q c h free fit (to w.slot) (fit.choice.slots w.slot w.is_slot) (omega (arith, t)) in
+            fit.apart w.slot (to w.slot) k w.is_slot i (fit.choice.away w.slot w.is_slot) l (inl (omega (arith, out))) (inr (inr t)))
+            (target_is q c h free fit (to w.slot) (k + 1) a.1))
             (λ a. let t : line w.slot k ≡ k + 1 = a.0 in (parts w.slot w.is_slot (not_hole w.slot k (omega (arith, t)))).away k l t)
             w.way
 

@@ -1,5 +1,5 @@
 -- Where the colour lines of the nodes begin and end.
-use Rattle.std.proofs.Common.{◌≡◌, ◌≢◌, ℕ, zero, suc, ◌+◌, ◌-◌, ◌<◌, ◌≤◌, List, [], ◌∷◌, length, map, Bool, true, false, cond, eqb, ◌&&◌, ◌⊎◌, inl, inr, ⊎_elim, refl, sym, ◌∙◌, ap, ap₂, subst, arith, true≢false, Option, None, Some, slice_get}
+use Rattle.std.proofs.Common.{◌≡◌, ◌≢◌, ℕ, zero, suc, ◌+◌, ◌-◌, ◌<◌, ◌≤◌, List, [], ◌∷◌, length, map, Bool, true, false, cond, eqb, ◌&&◌, inl, inr, ⊎_elim, refl, sym, ◌∙◌, ap, ap₂, subst, arith, true≢false, Option, None, Some, slice_get}
 use Rattle.std.proofs.lemmas.Bool.{eqb-true}
 use Rattle.std.proofs.lemmas.Bool.Decides.{nat_tests}
 use Rattle.std.proofs.lemmas.List.{length-map}
@@ -10,7 +10,6 @@ use Rattle.om_legs.specs.Splits.{IsSplit}
 use Rattle.om_legs.proofs.FirstPart.{leg_part, part_leg}
 use Rattle.om_legs.proofs.Operations.{holds-set_of_one}
 use Rattle.om_colour.specs.declared.Choice.{Choice}
-use Rattle.om_colour.specs.declared.Colour.{Colour}
 use Rattle.om_colour.specs.declared.Partial.{Partial}
 use Rattle.om_colour.specs.Choices.{goes_to}
 use Rattle.om_colour.specs.Lines.{IsSlot, ends_line, starts_line}
@@ -24,7 +23,7 @@ use Rattle.om_model.specs.Slots.{in_slots}
 use Rattle.om_model.specs.Tree.{Tree, Branches}
 use Rattle.om_model.specs.Tree.Tree.{leaf, join}
 use Rattle.om_model.specs.Tree.Branches.{none, and}
-use Rattle.om_model.proofs.Counting.{both, same_times}
+use Rattle.om_model.proofs.Counting.{same_times}
 use Rattle.om_model.proofs.Filling.{fields, in_slots_filled}
 use Rattle.om_model.proofs.Reordering.{in-reordered, length-reordered, reordered_back}
 use Rattle.om_graph.specs.declared.Key.{Key}
@@ -36,7 +35,7 @@ use Rattle.om_graph.specs.Vertices as vertices
 use Rattle.om_graph.proofs.ColoursFit.{nodes_join}
 use Rattle.om_graph.proofs.Lists.{in_map, in_mapped}
 use Rattle.om_graph.proofs.SetNodes.{in_by_number, nodes_of, number_of}
-use Rattle.om_emit.proofs.LineEnds.{IsEndOf, IsExact, nothing_exact, vertex_exact}
+use Rattle.om_emit.proofs.LineEnds.{IsExact, nothing_exact, vertex_exact}
 
 -- the same lines
 pub same_exact : (begin end behind : ℕ → Bool) (line more : ℕ → ℕ) (x y : ℕ) → ((k : ℕ) → k < 12 → more k ≡ line k) → y ≡ x → IsExact begin end behind line x → IsExact begin end behind more y
@@ -200,7 +199,7 @@ module _ (r : Reaction) (kinds : Kinds) (is : IsReaction r kinds) where
       let h = hole_of slots in
       let q = slot_partials slots in
       let fit : (x : ℕ) → times_in x (r.scattering.theory.slots v) ≡ times_in x (fields parts) = λ x.
-          sym (same_times (r.scattering.theory.anti f ∷ vertices.fields_of ks) (r.scattering.theory.slots v) fuse.slots x) ∙ ap (λ fs. times_in x (r.scattering.theory.anti f ∷ fs)) (sym (branch_fields r ks)) in
+      sym (same_times (r.scattering.theory.anti f ∷ vertices.fields_of ks) (r.scattering.theory.slots v) fuse.slots x) ∙ ap (λ fs. times_in x (r.scattering.theory.anti f ∷ fs)) (sym (branch_fields r ks)) in
       let their = in_their_slots r v parts fit in
       let long = their.long in
       let branches = length-map ks (branch r) in

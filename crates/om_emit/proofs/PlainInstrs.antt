@@ -1,13 +1,13 @@
 -- The instructions of the code of a canonical graph have a text.
-use Rattle.std.proofs.Common.{◌≡◌, ℕ, zero, suc, ◌+◌, ◌^◌, ◌<◌, ◌≤◌, List, [], ◌∷◌, ◌++◌, length, map, take, Bool, true, false, cond, eqb, ◌&&◌, ◌⊎◌, inl, inr, ⊎_elim, refl, sym, ◌∙◌, ap, ap₂, subst, arith, true≢false}
-use Rattle.std.specs.Prelude.{Option, Some, None, slice_get, slice_index, nat_lt, ◌==◌}
+use Rattle.std.proofs.Common.{◌≡◌, ℕ, zero, suc, ◌^◌, ◌<◌, ◌≤◌, List, [], ◌∷◌, ◌++◌, length, map, take, Bool, true, false, cond, ◌&&◌, inl, inr, ⊎_elim, refl, sym, ◌∙◌, ap, subst, arith}
+use Rattle.std.specs.Prelude.{Some, slice_get, slice_index, nat_lt, ◌==◌}
 use Rattle.std.specs.List.{AllByRecursion, filter, list_all}
 use Rattle.std.proofs.lemmas.Bool.Decides.{nat_tests}
 use Rattle.std.proofs.lemmas.List.{length-map}
 use Rattle.om_ring.specs.Members.{In}
 use Rattle.om_ring.proofs.Members.{of_filter}
 use Rattle.om_legs.specs.declared.branches.Branches.{Branches}
-use Rattle.om_legs.specs.Legs.{least, size}
+use Rattle.om_legs.specs.Legs.{least}
 use Rattle.om_model.specs.Model.{anti_field}
 use Rattle.om_model.specs.ModelLines.{kinds_of}
 use Rattle.om_model.specs.ProcessOf.{IsProcessOf}
@@ -22,7 +22,6 @@ use Rattle.om_graph.specs.declared.KeyTerm.{KeyTerm}
 use Rattle.om_graph.specs.declared.Term.{Term}
 use Rattle.om_graph.specs.Possible.{unsigned, unsigned_key}
 use Rattle.om_graph.specs.Reactions.{reaction_of}
-use Rattle.om_graph.specs.Vertices.{fusion}
 use Rattle.om_graph.proofs.HaveReactions.{well_formed_have_reactions}
 use Rattle.om_keystone.specs.Built.{is_inner, terms_at}
 use Rattle.om_keystone.specs.CanonicalGraph.{IsCanonicalOf}
@@ -33,16 +32,16 @@ use Rattle.om_code.specs.declared.code.Instr.{Instr}
 use Rattle.om_code.specs.declared.code.Instr.TheVariants.{Load, Fuse, Prop, Key as KeyOf}
 use Rattle.om_code.specs.Contents.{NamesSlots}
 use Rattle.om_code.specs.Ops.{Op, load, fuse, prop, key, op_of, placed_op}
-use Rattle.om_code.specs.Plain.{InParts, IsPlace, IsPlainInstr}
+use Rattle.om_code.specs.Plain.{IsPlace, IsPlainInstr}
 use Rattle.om_code.specs.Rules.{IsSettled, KeepsRules, is_choice, is_slot, names_all}
 use Rattle.om_code.specs.SlotPlans.{first_fit}
-use Rattle.om_code.specs.Slots.{at_start, held_before, nodes_of}
+use Rattle.om_code.specs.Slots.{held_before, nodes_of}
 use Rattle.om_code.proofs.Walk.{rules-by-walk}
-use Rattle.om_emit.specs.GraphCode.{IsCodeOf, den_place, fuse_op, graph_dens, key_op, node_ops, nodes_ops, register_lines, register_ops}
+use Rattle.om_emit.specs.GraphCode.{IsCodeOf, den_place, fuse_op, key_op, node_ops, nodes_ops, register_lines, register_ops}
 use Rattle.om_emit.specs.Counts.{CountsNodes}
 use Rattle.om_emit.proofs.DenMembers.{few_dens}
 use Rattle.om_emit.proofs.EmittedSums.{code_names_slots}
-use Rattle.om_emit.proofs.GraphHelds.{IsLeg, leg_of}
+use Rattle.om_emit.proofs.GraphHelds.{leg_of}
 use Rattle.om_emit.proofs.GraphRules.{all_keep, slots_small}
 
 -- a leg is at least 1, a fuse has at most three branches and a key at least three

@@ -1,17 +1,15 @@
 -- The lines before the instructions have a text, and the denominators keep the rules.
-use Rattle.std.proofs.Common.{◌≡◌, ℕ, zero, suc, ◌+◌, ◌-◌, ◌<◌, ◌≤◌, List, [], ◌∷◌, length, map, Bool, true, false, cond, eqb, ltb, leb, ◌&&◌, ◌⊎◌, inl, inr, ⊎_elim, refl, sym, ◌∙◌, ap, ap₂, subst, arith, true≢false}
-use Rattle.std.specs.Prelude.{Option, Some, None, slice_get, nat_le}
+use Rattle.std.proofs.Common.{◌≡◌, ℕ, zero, suc, ◌+◌, ◌-◌, ◌<◌, ◌≤◌, List, [], ◌∷◌, length, map, Bool, true, false, cond, ltb, leb, ◌⊎◌, inl, inr, refl, sym, ◌∙◌, ap, subst, arith, true≢false}
+use Rattle.std.specs.Prelude.{Option, Some, None, slice_get}
 use Rattle.std.specs.List.{AllByRecursion, list_all}
 use Rattle.std.proofs.lemmas.Bool.Decides.{nat_tests}
 use Rattle.om_ring.specs.Members.{In}
 use Rattle.om_ring.specs.declared.numeral.Numeral.{Numeral}
 use Rattle.om_legs.specs.Legs.{IsLegSet, complement, holds, size}
-use Rattle.om_legs.proofs.LegLists.{holds_none}
 use Rattle.om_legs.proofs.ShareSums.{size-empty}
 use Rattle.om_lorentz.specs.declared.structures.Structure.{Structure}
 use Rattle.om_lorentz.specs.declared.structures.Structure.TheVariants.{Sss, Ssss, Vss, Vvs, Vvss, Ffs, Ffv, Vvv, Vvvv, Gluon4}
 use Rattle.om_lorentz.specs.Structures.{factor_count}
-use Rattle.om_model.specs.FieldNames.{field_name, field_named}
 use Rattle.om_model.specs.Model.{anti_field, fields_of_vertex, is_field}
 use Rattle.om_model.specs.ModelLines.{kinds_of}
 use Rattle.om_model.specs.Diagram.{times_in}
@@ -22,7 +20,6 @@ use Rattle.om_model.specs.Tree.{Tree, legs}
 use Rattle.om_model.specs.Tree.Tree.{leaf, join}
 use Rattle.om_model.specs.WellFormed.{IsWellFormed}
 use Rattle.om_model.specs.declared.model.Model.{Model}
-use Rattle.om_model.specs.declared.model.Particle.{Particle}
 use Rattle.om_model.specs.declared.model.Vertex.{Vertex}
 use Rattle.om_model.specs.declared.process.Leg.{Leg}
 use Rattle.om_model.specs.declared.process.Process.{Process}
@@ -42,14 +39,13 @@ use Rattle.om_graph.proofs.PartSizes.{fused_some}
 use Rattle.om_graph.proofs.VertexColours.{few_fields}
 use Rattle.om_keystone.specs.Built.{is_inner}
 use Rattle.om_keystone.specs.CanonicalGraph.{IsCanonicalOf}
-use Rattle.om_keystone.specs.InDiagrams.{IsOutward}
 use Rattle.om_keystone.proofs.Nodes.{leg_is_leg}
 use Rattle.om_code.specs.declared.code.Code.{Code}
 use Rattle.om_code.specs.declared.code.Den.{Den}
 use Rattle.om_code.specs.Plain.{IsNamed, IsPlainDen, IsPlainParticle, IsPlainVertex, IsProduct}
-use Rattle.om_code.specs.Rules.{IsDen, IsInner, size_of}
+use Rattle.om_code.specs.Rules.{IsDen, IsInner}
 use Rattle.om_machine.proofs.FieldKinds.{is-anti}
-use Rattle.om_emit.specs.GraphCode.{IsCodeOf, den_of, dens_of, graph_dens}
+use Rattle.om_emit.specs.GraphCode.{IsCodeOf, den_of, graph_dens}
 use Rattle.om_emit.proofs.DenEdges.{dens_are_edges_above}
 use Rattle.om_emit.proofs.DenPlaces.{IsWithin, behind_earlier, side_inner}
 use Rattle.om_emit.proofs.GraphHelds.{as_many_legs, half}
@@ -168,7 +164,7 @@ module _ (m : Model) (p : Process) (formed : IsWellFormed m) (is : IsProcessOf m
       let few = half n node.legs fuse.outward in
       let slots = (reaction_of m p).scattering.theory.slots v in
       let stands : In (anti_field m.particles f) slots = in_of_times (anti_field m.particles f) slots
-          (subst (λ j. 0 < j) (same_times (anti_field m.particles f ∷ vertices.fields_of h.0) slots fuse.slots (anti_field m.particles f)) (times_of_in (anti_field m.particles f) (anti_field m.particles f ∷ vertices.fields_of h.0) (inl refl))) in
+      (subst (λ j. 0 < j) (same_times (anti_field m.particles f ∷ vertices.fields_of h.0) slots fuse.slots (anti_field m.particles f)) (times_of_in (anti_field m.particles f) (anti_field m.particles f ∷ vertices.fields_of h.0) (inl refl))) in
       record {
         is_set = fuse.legs;
         within = node_within (join f v ch bs) node h;

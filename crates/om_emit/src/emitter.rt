@@ -8,6 +8,7 @@ ghost use Rattle.om_keystone.specs.Built.{IsBuilt};
 ghost use Rattle.om_keystone.specs.CanonicalGraph.{IsCanonicalOf};
 ghost use Rattle.om_emit.specs.Counts.{CountsNodes};
 ghost use Rattle.om_emit.specs.GraphCode.{IsCodeOf};
+ghost use Rattle.om_emit.specs.Laws.{HasFewestSlots};
 
 use crate::dens::{edges_above, listed};
 use crate::placed::placed_all;
@@ -27,7 +28,8 @@ pub const MOST_NUMBERED: usize = 2_147_483_647;
 /// propagator behind them, and its keystone terms in order, with the slots of the first-fit plan in place of its registers, which are
 /// the numbers of its nodes.
 ///
-/// It keeps all rules of programs, so nothing is verified again. Takes time n log n in the graph. `NoMemory` is also the answer where
+/// It has as many slots as the width of its instruction list, and no slot plan of that list has fewer. It keeps all rules of programs,
+/// so nothing is verified again. Takes time n log n in the graph. `NoMemory` is also the answer where
 /// the graph has more nodes or flows than [`MOST_NUMBERED`], of which `build` makes none.
 pub fn emit(
     alloc: Global,
@@ -39,6 +41,7 @@ pub fn emit(
     requires process { IsProcessOf model.now process.now }
     requires canonical { IsCanonicalOf (reaction_of model.now process.now) pruned.now }
     ensures code { IfOk result (IsCodeOf model.now process.now pruned.now) }
+    ensures slots { IfOk result (HasFewestSlots model.now process.now pruned.now) }
 {
     let graph = pruned.graph();
     if graph.nodes.len() > MOST_NUMBERED || graph.flows.len() > MOST_NUMBERED {
@@ -49,12 +52,7 @@ pub fn emit(
 }
 
 /// The code of a graph whose nodes are made of earlier ones.
-fn code_of(
-    alloc: Global,
-    model: &Model,
-    process: &Process,
-    graph: &Graph,
-) -> Result<Code, NoMemory>
+fn code_of(alloc: Global, model: &Model, process: &Process, graph: &Graph) -> Result<Code, NoMemory>
     requires some { 0 < length process.now.legs }
     requires within { length process.now.legs ≤ 12 }
     requires few_nodes { length graph.now.nodes ≤ MOST_NUMBERED }
