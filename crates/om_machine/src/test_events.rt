@@ -68,7 +68,12 @@ fn put(rt: &impl Abort, code: &Code, event: &mut Event<Elem>, k: u8, leg: Leg)
     event.set(k, four(0, Zp.number(leg.time)), new);
 }
 
-pub(crate) fn event(rt: &impl Abort, alloc: Global, code: &Code, legs: [Leg; 4]) -> Result<Event<Elem>, Fail>
+pub(crate) fn event(
+    rt: &impl Abort,
+    alloc: Global,
+    code: &Code,
+    legs: [Leg; 4],
+) -> Result<Event<Elem>, Fail>
     requires { IsVerified code.now }
     ensures { IfOk result (IsMadeFor code.now) }
 {
