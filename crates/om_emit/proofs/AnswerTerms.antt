@@ -61,7 +61,10 @@ use Rattle.om_code.specs.Waves.{Incoming, event_of, signed_wave, wave_of}
 use Rattle.om_machine.specs.Events.{kind_of_field}
 use Rattle.om_machine.proofs.FieldKinds.{AreWell, anti-kind, fused-opposite, slots-kinds}
 use Rattle.om_machine.proofs.FieldKinds as kind
-use Rattle.om_emit.proofs.AnswerFused.{left-is, union-split}
+use Rattle.om_emit.specs.GraphCode.{IsCodeOf}
+use Rattle.om_emit.proofs.GraphHelds.{as_many_legs, fuse_makes}
+use Rattle.om_emit.proofs.HeldFinds.{fused_held}
+use Rattle.om_emit.proofs.HeldNodes.{gathering_held, ready_held}
 use Rattle.om_emit.proofs.AnswerKernels.{nested, open_edges}
 use Rattle.om_emit.proofs.AnswerMeets.{AreMet, closes-in, entry_of, fuses-in, opens-at, wave-sum}
 use Rattle.om_emit.proofs.AnswerSets.{IsSetOf, node_set, other_side, others_are}
@@ -80,7 +83,7 @@ signed-of o true a_column f = refl
 signed-of o true a_vector f = refl
 
 module _ {E : Type 0} (o : Ops E) (l : Laws o) (c : Code) (p : Process) (formed : IsWellFormed c.model) (of : IsProcessOf c.model p) (g : Graph) (canonical : IsCanonicalOf (reaction_of c.model p) g)
-    (sized : size_of c ≡ length p.legs) (t : Table E) (e : Incoming E) (wave : ℕ → ℕ → E) where
+    (code : IsCodeOf c.model p g c) (t : Table E) (e : Incoming E) (wave : ℕ → ℕ → E) where
   abbrev pub particles : List Particle
   particles = c.model.particles
 
@@ -96,6 +99,9 @@ module _ {E : Type 0} (o : Ops E) (l : Laws o) (c : Code) (p : Process) (formed 
   abbrev pub K : ℕ → Kind
   K f = kind_of_field particles f
 
+  sized : size_of c ≡ length p.legs
+  sized = as_many_legs c.model p formed of g canonical c code
+
   pub reaction : IsReaction (reaction_of c.model p) (kinds_of particles)
   reaction = well_formed_have_reactions c.model p formed of
 
@@ -105,19 +111,12 @@ module _ {E : Type 0} (o : Ops E) (l : Laws o) (c : Code) (p : Process) (formed 
   pub set_of_node : (k : Key) → In k g.nodes → IsSetOf s.size k.legs
   set_of_node k i = node_set (reaction_of c.model p) (kinds_of particles) reaction g canonical k i
 
-  -- what a node holds while its terms are added, and when it is ready
-  abbrev pub gathering : Key → Held
-  gathering k = record { phase = Gathering; legs = k.legs; field = k.field }
-
-  abbrev pub held : Key → Held
-  held k = record { phase = Ready; legs = k.legs; field = k.field }
-
   abbrev pub wave_on : ℕ → Key → Wave E
   wave_on n k = wave_of (K k.field) (wave n)
 
   abbrev pub content_at : Option Key → ℕ → Content E
   content_at None n = empty_content o c t e
-  content_at (Some k) n = (held k, wave_on n k)
+  content_at (Some k) n = (ready_held k, wave_on n k)
 
   -- its wave put together from its components
   abbrev pub content : ℕ → Content E
@@ -133,7 +132,7 @@ module _ {E : Type 0} (o : Ops E) (l : Laws o) (c : Code) (p : Process) (formed 
   entered-are at_none = refl
   entered-are (at_more {n = n} q a) = ap₂ (λ x rest. entering (content_at x n) ∷ rest) q (entered-are a)
 
-  helds-are : {ns : List ℕ} {ks : List Key} → At g.nodes ns ks → map (λ w. w.0) (map content ns) ≡ map held ks
+  helds-are : {ns : List ℕ} {ks : List Key} → At g.nodes ns ks → map (λ w. w.0) (map content ns) ≡ map ready_held ks
   helds-are at_none = refl
   helds-are (at_more {n = n} q a) = ap₂ (λ x rest. (content_at x n).0 ∷ rest) q (helds-are a)
 
@@ -178,23 +177,13 @@ module _ {E : Type 0} (o : Ops E) (l : Laws o) (c : Code) (p : Process) (formed 
       let formed_slots = (formed.formed_vertices v x at).pattern.0 in
       rw at (slots-kinds particles x.structure x.fields formed_slots.spins_are formed_slots.fermions)
 
-  fields-of-helds : (ks : List Key) → slots.fields_of (map held ks) ≡ fields_of ks
-  fields-of-helds ks = map-map held (λ h. h.field) ks
-
-  legs-of-helds : (ks : List Key) → map (λ h. h.legs) (map held ks) ≡ sets_of ks
-  legs-of-helds ks = map-map held (λ h. h.legs) ks
-
   module _ (f v ch : ℕ) (ns : List ℕ) (ks : List Key) (k : Key) (a : At g.nodes ns ks) (i : In k g.nodes) (fuse : Fuses (reaction_of c.model p) f v ch ks k) where
     fits : same_numbers (anti_field particles k.field ∷ fields_of ks) (s.theory.slots v) ≡ true
     fits = subst (λ x. same_numbers (anti_field particles x ∷ fields_of ks) (s.theory.slots v) ≡ true) (sym fuse.has_field) fuse.slots
 
-    fused-held : fused_of o c t e v (map held ks) ≡ gathering k
-    unfolding fused_of
-    fused-held = ap₂ (λ x y. let h : Held = record { phase = Gathering; legs = x; field = y } in h)
-        (union-split (length ks) k.legs (map held ks) fuse.legs (subst (IsSplit (length ks) k.legs) (sym (legs-of-helds ks)) fuse.split))
-        (ap (λ xs. anti_field particles (field_or_0 (left_field (s.theory.slots v) xs))) (fields-of-helds ks)
-        ∙ ap (λ x. anti_field particles (field_or_0 x)) (left-is (anti_field particles k.field) (fields_of ks) (s.theory.slots v) fits)
-        ∙ anti_anti particles k.field)
+    fused-held : fused_of o c t e v (map ready_held ks) ≡ gathering_held k
+    unfolding fused_of fused_held
+    fused-held = fuse_makes c.model p formed of g canonical c code f v ch ks k fuse
 
     are_met : AreMet o s.size k.legs (s.theory.slots v) (met ns ks)
     are_met = record {
@@ -250,14 +239,14 @@ module _ {E : Type 0} (o : Ops E) (l : Laws o) (c : Code) (p : Process) (formed 
           signed-of o minus (fused_kind (structure_of c v) (open_slot qs)) _
           ∙ ap₂ wave_of kind-is (fun_ext (λ j. ap (signed o minus) (sum-is j)))
 
-    fused-wave : (minus : Bool) → made_wave o c t e minus v ch (gathering k) (met ns ks) ≡ wave_of (K k.field) (added_at minus)
+    fused-wave : (minus : Bool) → made_wave o c t e minus v ch (gathering_held k) (met ns ks) ≡ wave_of (K k.field) (added_at minus)
     unfolding made_wave
     fused-wave minus = ap (wave_at minus) sized ∙ (let x = vertex_at v fuse.vertex in made-is x.0 x.1 minus)
 
     -- what the code makes of the nodes
-    pub fused-is : (minus : Bool) → fused_content o c t e minus v ch (map content ns) ≡ (gathering k, wave_of (K k.field) (added_at minus))
+    pub fused-is : (minus : Bool) → fused_content o c t e minus v ch (map content ns) ≡ (gathering_held k, wave_of (K k.field) (added_at minus))
     unfolding fused_content
     fused-is minus =
         ap₂ (λ hs qs. (fused_of o c t e v hs, made_wave o c t e minus v ch (fused_of o c t e v hs) qs)) (helds-are a) (entered-are a)
         ∙ ap (λ h. (h, made_wave o c t e minus v ch h (met ns ks))) fused-held
-        ∙ ap (λ w. (gathering k, w)) (fused-wave minus)
+        ∙ ap (λ w. (gathering_held k, w)) (fused-wave minus)

@@ -24,3 +24,9 @@ pub mod HeldNodes
 pub mod SplitHelds
 pub mod GraphHelds
 pub mod DenPlaces
+pub mod AnswerNests
+pub mod AnswerSlots
+pub mod AnswerKernels
+pub mod AnswerSets
+pub mod AnswerMeets
+pub mod AnswerTerms
