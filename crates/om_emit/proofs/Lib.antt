@@ -30,3 +30,4 @@ pub mod AnswerKernels
 pub mod AnswerSets
 pub mod AnswerMeets
 pub mod AnswerTerms
+pub mod AnswerNodes
