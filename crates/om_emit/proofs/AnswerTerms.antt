@@ -1,5 +1,6 @@
 -- What the terms and the keystone terms of a canonical graph make of the waves of its nodes is what the code makes of them.
-use Rattle.std.proofs.Common.{◌≡◌, ℕ, zero, suc, ◌+◌, ◌<◌, ◌≤◌, List, [], ◌∷◌, ◌++◌, length, map, Bool, true, false, ◌⊎◌, inl, inr, Option, Some, None, refl, ap, ap₂, sym, subst, ◌∙◌, arith}
+use Rattle.std.proofs.Common.{◌≡◌, ℕ, zero, suc, ◌+◌, ◌<◌, ◌≤◌, List, [], ◌∷◌, ◌++◌, length, map, Bool, true, false, ◌⊎◌, inl, inr, Option, Some, None, refl, ap, ap₂, sym, subst, ◌∙◌, arith, leb, true≢false}
+use Rattle.std.proofs.lemmas.Bool.Decides.{nat_tests}
 use Rattle.std.proofs.lemmas.List.{length-map}
 use Rattle.std.specs.Prelude.{slice_get, slice_index_or}
 use Rattle.std.proofs.lemmas.Option.{same_Some, slice_get_cases}
@@ -11,6 +12,10 @@ use Rattle.om_ring.proofs.SumLemmas.{sum_over-ext}
 use Rattle.om_lorentz.specs.declared.structures.Structure.{Structure}
 use Rattle.om_legs.specs.Legs as sets
 use Rattle.om_legs.specs.Splits.{IsSplit}
+use Rattle.om_legs.proofs.Bits.{holds-zero}
+use Rattle.om_legs.proofs.Least.{held_some}
+use Rattle.om_legs.proofs.Operations.{IsLegSet-all_legs, holds-all_legs}
+use Rattle.om_colour.specs.declared.Flow.{Flow}
 use Rattle.om_kernel.specs.declared.waves.Wave.{Wave}
 use Rattle.om_kernel.specs.declared.waves.Wave.TheVariants as waves
 use Rattle.om_kernel.specs.Waves.{Kind, a_scalar, a_row, a_column, a_vector}
@@ -26,7 +31,7 @@ use Rattle.om_model.specs.FermionLines.{Kinds}
 use Rattle.om_model.specs.FeynmanRules.{FeynmanRules, Table}
 use Rattle.om_model.specs.Model.{anti_field, scattering_of, spin_of_field, theory_of}
 use Rattle.om_model.specs.ModelLines.{kinds_of}
-use Rattle.om_model.specs.Parts.{Part}
+use Rattle.om_model.specs.Parts.{Part, within}
 use Rattle.om_model.specs.ProcessOf.{IsProcessOf}
 use Rattle.om_model.specs.Theory.{Scattering}
 use Rattle.om_model.specs.Value.{vertex_entry}
@@ -250,3 +255,42 @@ module _ {E : Type 0} (o : Ops E) (l : Laws o) (c : Code) (p : Process) (formed 
         ap₂ (λ hs qs. (fused_of o c t e v hs, made_wave o c t e minus v ch (fused_of o c t e v hs) qs)) (helds-are a) (entered-are a)
         ∙ ap (λ h. (h, made_wave o c t e minus v ch h (met ns ks))) fused-held
         ∙ ap (λ w. (gathering_held k, w)) (fused-wave minus)
+
+  all_set : IsSetOf s.size (sets.all_legs s.size)
+  all_set =
+      let many = reaction.least in
+      record {
+        is_set = IsLegSet-all_legs s.size;
+        some = held_some (sets.all_legs s.size) 1 (holds-all_legs s.size 1 reaction.most (let one : 0 < 1 = omega arith in one) ∙ (let first : leb 1 s.size ≡ true = grind (arith, nat_tests) in first));
+        inside = inside;
+      }
+    where
+      inside : (k : ℕ) → sets.holds (sets.all_legs s.size) k ≡ true → within s.size k ≡ true
+      inside zero h = absurd (true≢false (sym h ∙ holds-zero (sets.all_legs s.size)))
+      inside (suc k) h = let e : leb (suc k) s.size ≡ true = sym (holds-all_legs s.size (suc k) reaction.most (let p : 0 < suc k = omega arith in p)) ∙ h in grind (arith, nat_tests)
+
+  module _ (v ch : ℕ) (ns : List ℕ) (ks : List Key) (w : Flow) (a : At g.nodes ns ks) (close : Closes (reaction_of c.model p) v ch ks w) where
+    key_met : AreMet o s.size (sets.all_legs s.size) (s.theory.slots v) (met ns ks)
+    key_met = record {
+      set = all_set;
+      split = subst (λ xs. IsSplit (length (met ns ks)) (sets.all_legs s.size) xs) (sym (met-legs a)) (subst (λ m. IsSplit m (sets.all_legs s.size) (sets_of ks)) (sym (met-length a)) close.split);
+      full = met-full a;
+    }
+
+    key_fit : (n : ℕ) → times_in n (s.theory.slots v) ≡ times_in n (map (λ q. q.field) (met ns ks))
+    key_fit n = sym (same_times (fields_of ks) (s.theory.slots v) close.slots n) ∙ ap (times_in n) (sym (met-fields a))
+
+    key_many : (length (met ns ks) ≡ 3) ⊎ (length (met ns ks) ≡ 4)
+    key_many = subst (λ n. (n ≡ 3) ⊎ (n ≡ 4)) (sym (met-length a)) close.counted
+
+    -- what the code makes of the nodes at a keystone
+    pub closed-is : (minus : Bool) → made_number o c t e minus v ch (map entering (map content ns))
+        ≡ signed o minus (meet_at o (node_indices o s rules ev g) g.nodes wave ns (λ is. vertex_entry o s rules ev v ch (with_indices (map part_of (keys_at g.nodes ns)) is)))
+    unfolding made_number
+    closed-is minus =
+        let x = vertex_at v close.vertex in
+        let entry : List Part → List ℕ → E = λ qs is. vertex_entry o s rules ev v ch (with_indices qs is) in
+        ap (λ qs. signed o minus (o.times o.imag (full_sum o (structure_of c v) (reading_of_vertex c v ch) (factors_of o (t.factors v)) (slots_of o c t e (waves_in_slots (slots_of_vertex c v) qs))))) (entered-are a)
+        ∙ ap (signed o minus) (closes-in o l s reaction.most c t e v ch x.0 x.1 (sets.all_legs s.size) (met ns ks) key_met key_fit key_many 0
+        ∙ ap (λ qs. nested o l 0 (met ns ks) (entry qs)) (met-parts a ∙ ap (map part_of) (sym (keys_are a)))
+        ∙ met-sum a 0 (entry (map part_of (keys_at g.nodes ns))))

@@ -31,3 +31,4 @@ pub mod AnswerSets
 pub mod AnswerMeets
 pub mod AnswerTerms
 pub mod AnswerNodes
+pub mod AnswerSums
