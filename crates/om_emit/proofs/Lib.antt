@@ -32,3 +32,5 @@ pub mod AnswerMeets
 pub mod AnswerTerms
 pub mod AnswerNodes
 pub mod AnswerSums
+pub mod AnswerPoles
+pub mod EmittedAnswer

@@ -1,3 +1,4 @@
+use Rattle.om_emit.proofs.EmittedAnswer.{emitted_code_gives_answer}
 use Rattle.om_emit.proofs.AnswerSums.{flows-are}
 use Rattle.om_emit.proofs.AnswerNodes.{built-at}
 use Rattle.om_emit.proofs.AnswerTerms.{content}
