@@ -34,3 +34,4 @@ pub mod AnswerNodes
 pub mod AnswerSums
 pub mod AnswerPoles
 pub mod EmittedAnswer
+pub mod AnswerFlows

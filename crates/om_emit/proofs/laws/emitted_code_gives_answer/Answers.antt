@@ -1,19 +1,15 @@
+use Rattle.om_ring.specs.Ops.{laws_from}
+use Rattle.om_emit.proofs.AnswerFlows.{emitted_flows_are_theirs, no_diagram_no_flow}
 use Rattle.om_emit.proofs.EmittedAnswer.{emitted_code_gives_answer}
-use Rattle.om_emit.proofs.AnswerSums.{flows-are}
-use Rattle.om_emit.proofs.AnswerNodes.{built-at}
-use Rattle.om_emit.proofs.AnswerTerms.{content}
-use Rattle.om_emit.proofs.AnswerMeets.{open-at}
-use Rattle.om_emit.proofs.AnswerSets.{node_set}
-use Rattle.om_emit.proofs.AnswerKernels.{nested}
-use Rattle.om_emit.proofs.AnswerSlots.{slotted-alike}
-use Rattle.om_emit.proofs.AnswerNests.{nest-reordered}
 use Rattle.om_emit.proofs.laws.emitted_code_gives_answer.Goals as goal
 
 pub returns-clause-answer : goal.returns-clause-answer
-returns-clause-answer g c = ?
+returns-clause-answer g c =
+    let ring = c.args.ring.now in let o = g.R.Ring.ops ring in
+    emitted_code_gives_answer o (laws_from (g.R.Ring.element ring) o (g.met.R.Ring.known ring) (g.met.R.Ring.laws ring))
 
 pub returns-clause-flows : goal.returns-clause-flows
-returns-clause-flows g c = ?
+returns-clause-flows g c = emitted_flows_are_theirs
 
 pub returns-clause-none : goal.returns-clause-none
-returns-clause-none g c = ?
+returns-clause-none g c = no_diagram_no_flow
