@@ -1,5 +1,5 @@
 -- What the code of a canonical graph means is the answer to the event.
-use Rattle.std.proofs.Common.{◌≡◌, ◌↔◌, ℕ, List, [], ◌∷◌, length, map, true, ◌⊎◌, inl, inr, refl, ap, sym, subst, ◌∙◌}
+use Rattle.std.proofs.Common.{◌≡◌, ◌↔◌, ℕ, zero, suc, List, [], ◌∷◌, length, map, true, ◌⊎◌, inl, inr, refl, ap, sym, subst, ◌∙◌}
 use Rattle.om_ring.specs.Members.{In}
 use Rattle.om_ring.specs.Ops.{Ops, Laws}
 use Rattle.om_model.specs.declared.model.Model.{Model}
@@ -11,6 +11,7 @@ use Rattle.om_model.specs.Event.{Balances}
 use Rattle.om_model.specs.FeynmanRules.{Table}
 use Rattle.om_model.specs.Model.{scattering_of}
 use Rattle.om_model.specs.ModelLines.{lines_of}
+use Rattle.om_model.specs.ModelTable.{model_table}
 use Rattle.om_model.specs.ProcessOf.{IsProcessOf}
 use Rattle.om_model.specs.WellFormed.{IsWellFormed}
 use Rattle.om_model.proofs.OneAnswer.{one_answer}
@@ -26,7 +27,9 @@ use Rattle.om_code.specs.Meaning.MachineAnswer.{unbalanced as machine_unbalanced
 use Rattle.om_code.specs.Rules.{size_of}
 use Rattle.om_code.specs.Waves.{Incoming, event_of}
 use Rattle.om_machine.specs.Events.{IsMadeFor}
-use Rattle.om_emit.specs.EmittedAnswer.{EmittedCodeGivesAnswer, MeansAnswer, answer_with, with_sums}
+use Rattle.om_machine.specs.Loaded.{answer_of}
+use Rattle.om_machine.proofs.TableMeaning.{same-meaning}
+use Rattle.om_emit.specs.EmittedAnswer.{EmittedCodeGivesAnswer, EvaluatedIsAnswer, MeansAnswer, SumsStandAtFlows, answer_with, with_sums}
 use Rattle.om_emit.specs.GraphCode.{IsCodeOf}
 use Rattle.om_emit.proofs.AnswerPoles.{all-or-first, first-pole, no-pole}
 use Rattle.om_emit.proofs.AnswerSums.{flows-are}
@@ -83,3 +86,14 @@ emitted_code_gives_answer {E} o l m p formed of g canonical c code t e made =
     let Said : Model → Type 0 = λ x. IsWellFormed x → IsProcessOf x p → IsCanonicalOf (reaction_of x p) g → IsCodeOf x p g c
         → (b : Answer E) → MeansAnswer o c t e b ↔ IsAnswer o (scattering_of x p) (feynman_rules o x t) (lines_of x p) (event_of o e) b in
     subst Said code.same_model (λ f q n k. both_ways o l c p f q g n k t e made) formed of canonical code
+
+pub evaluated_is_answer : {E : Type 0} (o : Ops E) → Laws o → EvaluatedIsAnswer o
+evaluated_is_answer o l m p formed of g canonical c code t e same made outcome sums meaning =
+    (emitted_code_gives_answer o l m p formed of g canonical c code (model_table o m) e made (answer_with c.flows (answer_of outcome sums))).0
+    (answer_of outcome sums, same-meaning o c t (model_table o m) e same (answer_of outcome sums) meaning, refl)
+
+pub sums_stand_at_flows : {E : Type 0} → SumsStandAtFlows E
+sums_stand_at_flows [] sums k w x h g = cc
+sums_stand_at_flows (u ∷ us) [] k w x h g = cc
+sums_stand_at_flows (u ∷ us) (y ∷ ys) zero w x h g = cc
+sums_stand_at_flows (u ∷ us) (y ∷ ys) (suc k) w x h g = sums_stand_at_flows us ys k w x h g
