@@ -1,5 +1,5 @@
 -- The flows of the code of a canonical graph, and codes without any.
-use Rattle.std.proofs.Common.{◌≡◌, ◌↔◌, ℕ, List, [], ◌∷◌, ◌++◌, length, map, true, inl, inr, Option, Some, None, refl, ap, sym, subst, ◌∙◌}
+use Rattle.std.proofs.Common.{◌≡◌, ℕ, List, [], ◌∷◌, ◌++◌, length, map, true, inl, Some, None, refl, ap, sym, subst, ◌∙◌}
 use Rattle.std.specs.Prelude.{slice_get}
 use Rattle.om_ring.specs.Members.{In}
 use Rattle.om_colour.specs.declared.Flow.{Flow}
@@ -17,7 +17,6 @@ use Rattle.om_model.specs.WellFormed.{IsWellFormed}
 use Rattle.om_model.proofs.Rising.{in_rising_of, numbers_order, rising_of_rising, rising_unique}
 use Rattle.om_graph.specs.declared.Graph.{Graph}
 use Rattle.om_graph.specs.declared.Key.{Key}
-use Rattle.om_graph.specs.declared.KeyTerm.{KeyTerm}
 use Rattle.om_graph.specs.Possible.{flow_lt, unsigned_key}
 use Rattle.om_graph.specs.Reactions.{reaction_of}
 use Rattle.om_graph.proofs.Lists.{in_map, in_mapped}

@@ -1,7 +1,6 @@
 -- The waves of the nodes of a canonical graph are those that its code makes.
-use Rattle.std.proofs.Common.{◌≡◌, ℕ, zero, suc, ◌+◌, ◌-◌, ◌<◌, ◌≤◌, List, [], ◌∷◌, length, map, Bool, true, false, inl, inr, Option, Some, None, refl, ap, ap₂, sym, subst, ◌∙◌, arith, lit<, true≢false}
+use Rattle.std.proofs.Common.{◌≡◌, ℕ, zero, suc, ◌+◌, ◌-◌, ◌<◌, ◌≤◌, List, [], ◌∷◌, length, map, Bool, true, false, inl, inr, Some, refl, ap, ap₂, sym, subst, ◌∙◌, arith, lit<}
 use Rattle.std.specs.Prelude.{◌/◌, ◌%◌, ◌==◌, if◌then◌else◌, slice_get, slice_index_or}
-use Rattle.std.specs.List.{AllByRecursion}
 use Rattle.std.proofs.lemmas.Bool.{eqb-true}
 use Rattle.std.proofs.lemmas.Option.{same_Some}
 use mathlib.Core.Path.{fun_ext}
@@ -12,7 +11,6 @@ use Rattle.om_ring.proofs.RingLemmas.{times_left_comm}
 use Rattle.om_ring.proofs.SumLemmas.{sum_over-ext, times-sum_over}
 use Rattle.om_lorentz.specs.declared.structures.Spin.{Spin}
 use Rattle.om_lorentz.specs.declared.structures.Spin.TheVariants.{Scalar, Dirac, Vector}
-use Rattle.om_lorentz.specs.declared.vectors.Four.{Four}
 use Rattle.om_lorentz.specs.Matrices.{reversed}
 use Rattle.om_lorentz.specs.Propagators.{propagator}
 use Rattle.om_lorentz.specs.Structures as structures
@@ -22,7 +20,7 @@ use Rattle.om_kernel.specs.declared.waves.Wave.TheVariants as waves
 use Rattle.om_kernel.specs.Waves.{Kind, a_scalar, a_row, a_column, a_vector, component, kind_of}
 use Rattle.om_kernel.specs.EdgeSums.{edge_sum}
 use Rattle.om_model.specs.declared.process.Process.{Process}
-use Rattle.om_model.specs.Entries.{feynman_rules, four_of, numerator}
+use Rattle.om_model.specs.Entries.{four_of, numerator}
 use Rattle.om_model.specs.Event.{Balances, Event, members, momentum_of}
 use Rattle.om_model.specs.FeynmanRules.{FeynmanRules, Table}
 use Rattle.om_model.specs.Model.{anti_field, spin_of_field}
@@ -49,8 +47,8 @@ use Rattle.om_keystone.proofs.Numbers.{at_of}
 use Rattle.om_keystone.specs.Built.{is_inner, terms_at, NodesAreBuilt}
 use Rattle.om_keystone.specs.CanonicalGraph.{IsCanonicalOf}
 use Rattle.om_keystone.specs.EdgeRules.{name_of, propagator_of}
-use Rattle.om_keystone.specs.NodeNames.{IsNamed, field_of_side, side_without_leg_1}
-use Rattle.om_keystone.specs.NodeWaves.{AreNodeWaves, node_wave, part_of, term_value}
+use Rattle.om_keystone.specs.NodeNames.{field_of_side, side_without_leg_1}
+use Rattle.om_keystone.specs.NodeWaves.{AreNodeWaves, part_of, term_value}
 use Rattle.om_keystone.proofs.BuiltGraph.{canonical_is_built}
 use Rattle.om_keystone.proofs.NodeNames.{nodes_have_names}
 use Rattle.om_code.specs.declared.code.Code.{Code}
@@ -60,13 +58,13 @@ use Rattle.om_code.specs.Contents.{Content, code_meaning, empty_content, moved_c
 use Rattle.om_code.specs.Meaning.{edge_of_den, factor_at}
 use Rattle.om_code.specs.Slots as slots
 use Rattle.om_code.specs.Slots.{nodes_of}
-use Rattle.om_code.specs.Waves.{Incoming, event_of, momentum_behind, plus_wave, wave_of, wave_of_leg, zero_wave}
+use Rattle.om_code.specs.Waves.{Incoming, momentum_behind, plus_wave, wave_of, wave_of_leg, zero_wave}
 use Rattle.om_machine.specs.Events.{IsMadeFor, kind_of_spin}
 use Rattle.om_emit.specs.GraphCode.{IsCodeOf, den_of, den_place, graph_dens}
 use Rattle.om_emit.specs.NodeCode.{added, gathered}
 use Rattle.om_emit.specs.NodeContents.{AreNodeContents, node_content, term_content}
-use Rattle.om_emit.proofs.AnswerSets.{IsSetOf, members_are, other_side, others_are}
-use Rattle.om_emit.proofs.AnswerTerms.{K, content, content_at, ev, fused-is, particles, reaction, rules, s, set_of_node, wave_on}
+use Rattle.om_emit.proofs.AnswerSets.{IsSetOf, members_are, other_side}
+use Rattle.om_emit.proofs.AnswerTerms.{content, content_at, event as event_in, fused-is, kind_of as kind_in, reaction, rules as rules_in, s as scattering_in, set_of_node}
 use Rattle.om_emit.proofs.DenEdges.{dens_are_edges_above}
 use Rattle.om_emit.proofs.DenPlaces.{place_there}
 use Rattle.om_emit.proofs.GraphHelds.{as_many_legs, node_leg_keeps}
@@ -147,90 +145,90 @@ built-at terms k (x ∷ nodes) b (suc n) node e inner = (let next : suc k + n �
 
 module _ {E : Type 0} (o : Ops E) (l : Laws o) (c : Code) (p : Process) (formed : IsWellFormed c.model) (of : IsProcessOf c.model p) (g : Graph) (canonical : IsCanonicalOf (reaction_of c.model p) g)
     (code : IsCodeOf c.model p g c) (t : Table E) (e : Incoming E) (wave : ℕ → ℕ → E) where
-  abbrev S : Scattering
-  S = s o l c p formed of g canonical code t e wave
+  abbrev scattering : Scattering
+  scattering = scattering_in o l c p formed of g canonical code t e wave
 
-  abbrev R : FeynmanRules E
-  R = rules o l c p formed of g canonical code t e wave
+  abbrev rules : FeynmanRules E
+  rules = rules_in o l c p formed of g canonical code t e wave
 
-  abbrev V : Event E
-  V = ev o l c p formed of g canonical code t e wave
+  abbrev event : Event E
+  event = event_in o l c p formed of g canonical code t e wave
 
   abbrev anti : ℕ → ℕ
   anti = anti_field c.model.particles
 
-  small : S.size ≤ 12
+  small : scattering.size ≤ 12
   small = (reaction o l c p formed of g canonical code t e wave).most
 
-  node_set : (k : Key) → In k g.nodes → IsSetOf S.size k.legs
+  node_set : (k : Key) → In k g.nodes → IsSetOf scattering.size k.legs
   node_set = set_of_node o l c p formed of g canonical code t e wave
 
-  pub node_outward : (k : Key) → In k g.nodes → is_outward S.size k.legs ≡ true
+  pub node_outward : (k : Key) → In k g.nodes → is_outward scattering.size k.legs ≡ true
   node_outward k i =
       let r = reaction_of c.model p in
       let known = reaction o l c p formed of g canonical code t e wave in
       let edge = (canonical.graph.nodes k).0 i in
       let side = side_of r (kinds_of c.model.particles) known edge.0 k edge.2 in
-      ap (λ (j : Key). is_outward S.size j.legs) side.1 ∙ outward_of r (kinds_of c.model.particles) known edge.0 side.0.subtree side.0.light
+      ap (λ (j : Key). is_outward scattering.size j.legs) side.1 ∙ outward_of r (kinds_of c.model.particles) known edge.0 side.0.subtree side.0.light
 
-  pub side_set : (k : Key) → In k g.nodes → IsSetOf S.size (side_without_leg_1 S k)
+  pub side_set : (k : Key) → In k g.nodes → IsSetOf scattering.size (side_without_leg_1 scattering k)
   side_set k i = by (sets.holds k.legs 1)
     where
-      by : (b : Bool) → IsSetOf S.size (if b then sets.complement k.legs S.size else k.legs)
-      by true = other_side S.size small k.legs (node_set k i) (reaction o l c p formed of g canonical code t e wave).least (node_outward k i)
+      by : (b : Bool) → IsSetOf scattering.size (if b then sets.complement k.legs scattering.size else k.legs)
+      by true = other_side scattering.size small k.legs (node_set k i) (reaction o l c p formed of g canonical code t e wave).least (node_outward k i)
       by false = node_set k i
 
   -- the denominator of a node by its side without leg 1
-  pub den-is : (k : Key) → den_of anti S.size k ≡ record { legs = side_without_leg_1 S k; field = field_of_side S k }
+  pub den-is : (k : Key) → den_of anti scattering.size k ≡ record { legs = side_without_leg_1 scattering k; field = field_of_side scattering k }
   unfolding den_of
   den-is k = by (sets.holds k.legs 1)
     where
-      by : (b : Bool) → (let d : Den = if b then record { legs = sets.complement k.legs S.size; field = anti k.field } else record { legs = k.legs; field = k.field } in d)
-          ≡ record { legs = if b then sets.complement k.legs S.size else k.legs; field = if b then anti k.field else k.field }
+      by : (b : Bool) → (let d : Den = if b then record { legs = sets.complement k.legs scattering.size; field = anti k.field } else record { legs = k.legs; field = k.field } in d)
+          ≡ record { legs = if b then sets.complement k.legs scattering.size else k.legs; field = if b then anti k.field else k.field }
       by true = refl
       by false = refl
 
   -- the edge that it names is the one above the node
-  pub name-is : (k : Key) → In k g.nodes → edge_of_den (den_of anti S.size k) ≡ name_of S (part_of k)
+  pub name-is : (k : Key) → In k g.nodes → edge_of_den (den_of anti scattering.size k) ≡ name_of scattering (part_of k)
   name-is k i =
       let named = nodes_have_names c.model p formed of g canonical k i in
       ap edge_of_den (den-is k)
-      ∙ ap₂ (λ ks f. let name : EdgeName = record { legs = ks; field = f } in name) (sym (members_are S.size small (side_without_leg_1 S k) (side_set k i)) ∙ sym named.legs) (sym named.field)
+      ∙ ap₂ (λ ks f. let name : EdgeName = record { legs = ks; field = f } in name) (sym (members_are scattering.size small (side_without_leg_1 scattering k) (side_set k i)) ∙ sym named.legs) (sym named.field)
 
-  row-is : (k : Key) → (den_of anti S.size k).field / 2 ≡ k.field / 2
+  row-is : (k : Key) → (den_of anti scattering.size k).field / 2 ≡ k.field / 2
   row-is k = ap (λ (d : Den). d.field / 2) (den-is k) ∙ by (sets.holds k.legs 1)
     where
       by : (b : Bool) → (if b then anti k.field else k.field) / 2 ≡ k.field / 2
       by true = anti_row c.model.particles k.field
       by false = refl
 
-  den_there : (k : Key) → In k g.nodes → is_inner k ≡ true → slice_get c.dens (den_place c.model (length p.legs) g k) ≡ Some (den_of anti S.size k)
+  den_there : (k : Key) → In k g.nodes → is_inner k ≡ true → slice_get c.dens (den_place c.model (length p.legs) g k) ≡ Some (den_of anti scattering.size k)
   den_there k i inner =
       ap (λ ds. slice_get ds (den_place c.model (length p.legs) g k)) code.dens
-      ∙ place_there (graph_dens c.model (length p.legs) g) (den_of anti S.size k)
-      (((dens_are_edges_above anti S.size g.nodes).members (den_of anti S.size k)).1 (record { node = k; is_node = i; inner = inner; edge = refl }))
+      ∙ place_there (graph_dens c.model (length p.legs) g) (den_of anti scattering.size k)
+      (((dens_are_edges_above anti scattering.size g.nodes).members (den_of anti scattering.size k)).1 (record { node = k; is_node = i; inner = inner; edge = refl }))
 
   -- the norm and the inverse denominator of the edge above a node
   abbrev factor_of : Key → E
-  factor_of k = o.times (R.norm (k.field / 2)) (value_or_zero o R V (o.inverse (denominator o R V (name_of S (part_of k)))))
+  factor_of k = o.times (rules.norm (k.field / 2)) (value_or_zero o rules event (o.inverse (denominator o rules event (name_of scattering (part_of k)))))
 
   factor-is : (k : Key) → In k g.nodes → is_inner k ≡ true → factor_at o c t e (slice_get c.dens (den_place c.model (length p.legs) g k)) ≡ factor_of k
   factor-is k i inner =
       ap (factor_at o c t e) (den_there k i inner)
-      ∙ ap₂ (λ row name. o.times (R.norm row) (value_or_zero o R V (o.inverse (denominator o R V name)))) (row-is k) (name-is k i)
+      ∙ ap₂ (λ row name. o.times (rules.norm row) (value_or_zero o rules event (o.inverse (denominator o rules event name)))) (row-is k) (name-is k i)
 
-  module _ (made : IsMadeFor c e) (are : AreNodeWaves o S R V g wave) where
+  module _ (made : IsMadeFor c e) (are : AreNodeWaves o scattering rules event g wave) where
     abbrev kind : ℕ → Kind
-    kind f = K o l c p formed of g canonical code t e wave f
+    kind f = kind_in o l c p formed of g canonical code t e wave f
 
     abbrev held_by : ℕ → Content E
     held_by = content o l c p formed of g canonical code t e wave
 
     abbrev added_up : ℕ → Key → ℕ → E
-    added_up n k j = sum_over o (terms_at g.terms n) (term_value o S R V g wave k j)
+    added_up n k j = sum_over o (terms_at g.terms n) (term_value o scattering rules event g wave k j)
 
     abbrev inner_value : ℕ → Key → ℕ → E
-    inner_value n k i = sum_over o (structures.indices_of (spin_of_field c.model.particles k.field)) (λ j. o.times (propagator_of o S R V (part_of k) i j) (added_up n k j))
+    inner_value n k i = sum_over o (structures.indices_of (spin_of_field c.model.particles k.field)) (λ j. o.times (propagator_of o scattering rules event (part_of k) i j) (added_up n k j))
 
     -- a leg
     leg-is : (n : ℕ) (k : Key) → slice_get g.nodes n ≡ Some k → is_inner k ≡ false → content_at o l c p formed of g canonical code t e wave (Some k) n ≡ (code_meaning o c t e).loaded (sets.least k.legs)
@@ -249,7 +247,7 @@ module _ {E : Type 0} (o : Ops E) (l : Laws o) (c : Code) (p : Process) (formed 
         (wave-ext o l (spin_of_field c.model.particles k.field) (k.field % 2 == 0) (wave n) (component w) known ∙ ap (λ q. wave_of q (component w)) (sym is_kind) ∙ wave-whole o l w)
 
     term-is : (n : ℕ) (k : Key) → slice_get g.nodes n ≡ Some k → (x : Term) → In x (terms_at g.terms n)
-        → term_content (plus_content o c t e) (empty_content o c t e) (code_meaning o c t e) held_by x ≡ (gathering_held k, wave_of (kind k.field) (λ j. term_value o S R V g wave k j x))
+        → term_content (plus_content o c t e) (empty_content o c t e) (code_meaning o c t e) held_by x ≡ (gathering_held k, wave_of (kind k.field) (λ j. term_value o scattering rules event g wave k j x))
     unfolding terms_at
     term-is n k at x i =
         let f = (in_filter (λ t. t.node == n) x g.terms).0 i in
@@ -262,20 +260,20 @@ module _ {E : Type 0} (o : Ops E) (l : Laws o) (c : Code) (p : Process) (formed 
         → gathered (plus_content o c t e) (empty_content o c t e) (map (term_content (plus_content o c t e) (empty_content o c t e) (code_meaning o c t e) held_by) (terms_at g.terms n))
         ≡ (gathering_held k, wave_of (kind k.field) (added_up n k))
     gathers n k at inner =
-        let f : Term → ℕ → E = λ x j. term_value o S R V g wave k j x in
+        let f : Term → ℕ → E = λ x j. term_value o scattering rules event g wave k j x in
         let some : 0 < length (terms_at g.terms (0 + n)) = built-at g.terms 0 g.nodes (canonical_is_built c.model p formed of g canonical).nodes n k at inner in
         ap (gathered (plus_content o c t e) (empty_content o c t e)) (map-same _ (one_of o l c t e (gathering_held k) (kind k.field) f) (terms_at g.terms n) (term-is n k at))
         ∙ gathered-is o l c t e (gathering_held k) (kind k.field) f (empty_content o c t e) (terms_at g.terms n) (let here : 0 + n ≡ n = omega arith in subst (λ m. 0 < length (terms_at g.terms m)) here some)
 
-    module _ (balanced : Balances o V S.size) where
+    module _ (balanced : Balances o event scattering.size) where
       abbrev before : Key → ℕ → E
-      before k = momentum_of o V (members S.size (sets.holds k.legs))
+      before k = momentum_of o event (members scattering.size (sets.holds k.legs))
 
       abbrev behind : Key → ℕ → E
-      behind k = momentum_of o V (members S.size (others S.size (sets.holds k.legs)))
+      behind k = momentum_of o event (members scattering.size (others scattering.size (sets.holds k.legs)))
 
       over-edge : (k : Key) → In k g.nodes → (f : ℕ → E) (i : ℕ)
-          → sum_over o (structures.indices_of (spin_of_field c.model.particles k.field)) (λ j. o.times (propagator_of o S R V (part_of k) i j) (f j))
+          → sum_over o (structures.indices_of (spin_of_field c.model.particles k.field)) (λ j. o.times (propagator_of o scattering rules event (part_of k) i j) (f j))
           ≡ o.times (factor_of k) (edge_sum o (t.mass (k.field / 2)) (momentum_behind o e k.legs) (wave_of (kind k.field) f) i)
       unfolding propagator_of
       over-edge k i f j =
@@ -283,8 +281,8 @@ module _ {E : Type 0} (o : Ops E) (l : Laws o) (c : Code) (p : Process) (formed 
           let top : ℕ → E = λ m. numerator o spin (k.field % 2 == 0) (t.mass (k.field / 2)) (before k) (behind k) j m in
           sum_over-ext o (structures.indices_of spin) _ _ (λ m. l.times_assoc (top m) (factor_of k) (f m) ∙ times_left_comm o l (top m) (factor_of k) (f m))
           ∙ sym (times-sum_over o l (factor_of k) (structures.indices_of spin) (λ m. o.times (top m) (f m)))
-          ∙ ap (o.times (factor_of k)) (sym (edge-is o l spin (k.field % 2 == 0) (t.mass (k.field / 2)) (before k) (behind k) (opposite o l V S.size (sets.holds k.legs) balanced) f j)
-          ∙ ap (λ ks. edge_sum o (t.mass (k.field / 2)) (four_of (momentum_of o V ks)) (wave_of (kind k.field) f) j) (members_are S.size small k.legs (node_set k i)))
+          ∙ ap (o.times (factor_of k)) (sym (edge-is o l spin (k.field % 2 == 0) (t.mass (k.field / 2)) (before k) (behind k) (opposite o l event scattering.size (sets.holds k.legs) balanced) f j)
+          ∙ ap (λ ks. edge_sum o (t.mass (k.field / 2)) (four_of (momentum_of o event ks)) (wave_of (kind k.field) f) j) (members_are scattering.size small k.legs (node_set k i)))
 
       -- an inner node
       inner-is : (n : ℕ) (k : Key) → slice_get g.nodes n ≡ Some k → is_inner k ≡ true → content_at o l c p formed of g canonical code t e wave (Some k) n
@@ -297,7 +295,7 @@ module _ {E : Type 0} (o : Ops E) (l : Laws o) (c : Code) (p : Process) (formed 
           let den = den_place c.model (length p.legs) g k in
           ap (λ u. (ready_held k, u))
           (wave-ext o l spin (k.field % 2 == 0) (wave n) (λ j. o.times (factor_at o c t e (slice_get c.dens den)) (edge_sum o (t.mass (k.field / 2)) (momentum_behind o e k.legs) w j))
-          (λ j m. are n k at j m ∙ ap (λ b. if b then inner_value n k j else V.wave (sets.least k.legs) j) inner ∙ over-edge k i (added_up n k) j
+          (λ j m. are n k at j m ∙ ap (λ b. if b then inner_value n k j else event.wave (sets.least k.legs) j) inner ∙ over-edge k i (added_up n k) j
           ∙ ap (λ x. o.times x (edge_sum o (t.mass (k.field / 2)) (momentum_behind o e k.legs) w j)) (sym (factor-is k i inner)))
           ∙ ap (λ q. wave_of q (λ j. o.times (factor_at o c t e (slice_get c.dens den)) (edge_sum o (t.mass (k.field / 2)) (momentum_behind o e k.legs) w j))) (sym (kind-made o l (kind k.field) (added_up n k))))
 

@@ -12,11 +12,10 @@ use Rattle.om_model.specs.FeynmanRules.{FeynmanRules, Table}
 use Rattle.om_model.specs.Model.{anti_field}
 use Rattle.om_model.specs.Order.{numbers_lt}
 use Rattle.om_model.specs.ProcessOf.{IsProcessOf}
-use Rattle.om_model.specs.Propagator.{EdgeName, IsPole, denominator, name_lt, set_number}
+use Rattle.om_model.specs.Propagator.{EdgeName, IsPole, name_lt, set_number}
 use Rattle.om_model.specs.Theory.{Scattering}
 use Rattle.om_model.specs.WellFormed.{IsWellFormed}
 use Rattle.om_graph.specs.declared.Graph.{Graph}
-use Rattle.om_graph.specs.declared.Key.{Key}
 use Rattle.om_graph.specs.Reactions.{reaction_of}
 use Rattle.om_keystone.specs.CanonicalGraph.{IsCanonicalOf}
 use Rattle.om_keystone.specs.EdgeRules.{name_of}
@@ -29,9 +28,9 @@ use Rattle.om_code.specs.Meaning.{HaveInverses, IsFirstPole, denominator_of, edg
 use Rattle.om_code.specs.Waves.{Incoming}
 use Rattle.om_code.proofs.DenOrder.{dens-by-numbers}
 use Rattle.om_emit.specs.EdgesAbove.{HasEdgeAbove}
-use Rattle.om_emit.specs.GraphCode.{IsCodeOf, den_of, graph_dens}
+use Rattle.om_emit.specs.GraphCode.{IsCodeOf, den_of}
 use Rattle.om_emit.proofs.AnswerNodes.{den-is, name-is}
-use Rattle.om_emit.proofs.AnswerTerms.{ev, rules as rules_of, s}
+use Rattle.om_emit.proofs.AnswerTerms.{event as event_in, rules as rules_in, s as scattering_in}
 use Rattle.om_emit.proofs.DenEdges.{dens_are_edges_above}
 use Rattle.om_emit.proofs.DensInOrder.{dens_total}
 
@@ -98,13 +97,13 @@ module _ {E : Type 0} (o : Ops E) (c : Code) (t : Table E) (e : Incoming E) wher
 module _ {E : Type 0} (o : Ops E) (l : Laws o) (c : Code) (p : Process) (formed : IsWellFormed c.model) (of : IsProcessOf c.model p) (g : Graph) (canonical : IsCanonicalOf (reaction_of c.model p) g)
     (code : IsCodeOf c.model p g c) (t : Table E) (e : Incoming E) (wave : ℕ → ℕ → E) where
   abbrev scattering : Scattering
-  scattering = s o l c p formed of g canonical code t e wave
+  scattering = scattering_in o l c p formed of g canonical code t e wave
 
   abbrev rules : FeynmanRules E
-  rules = rules_of o l c p formed of g canonical code t e wave
+  rules = rules_in o l c p formed of g canonical code t e wave
 
   abbrev event : Event E
-  event = ev o l c p formed of g canonical code t e wave
+  event = event_in o l c p formed of g canonical code t e wave
 
   abbrev HasNode : EdgeName → Type 0
   HasNode name = HasPoleNode o scattering rules event g name

@@ -1,5 +1,5 @@
 -- What enters a vertex of a code, slot by slot, as the parts of a vertex fill its slots.
-use Rattle.std.proofs.Common.{◌≡◌, ℕ, List, [], ◌∷◌, ◌++◌, map, Bool, true, false, cond, ltb, refl, ap, ap₂, sym, subst, ◌∙◌}
+use Rattle.std.proofs.Common.{◌≡◌, ℕ, List, [], ◌∷◌, map, cond, ltb, refl, ap, ap₂, sym, subst, ◌∙◌}
 use Rattle.om_ring.specs.Members.{Different}
 use Rattle.om_legs.specs.Legs as sets
 use Rattle.om_model.specs.Diagram.{times_in}

@@ -1,6 +1,6 @@
 -- The sums of the code of a canonical graph are those over its keystone terms, flow by flow.
-use Rattle.std.proofs.Common.{◌≡◌, ◌≢◌, ℕ, zero, suc, ◌+◌, ◌<◌, List, [], ◌∷◌, length, map, Bool, true, false, cond, inl, inr, Some, refl, ap, ap₂, sym, subst, ◌∙◌, arith, get_or-set_same, get_or-set_other}
-use Rattle.std.specs.Prelude.{◌==◌, replicate, slice_get, slice_index_or, slice_set}
+use Rattle.std.proofs.Common.{◌≡◌, ◌≢◌, ℕ, zero, suc, ◌+◌, ◌<◌, List, [], ◌∷◌, length, map, Bool, true, false, cond, inl, inr, refl, ap, ap₂, sym, subst, ◌∙◌, arith, get_or-set_same, get_or-set_other}
+use Rattle.std.specs.Prelude.{◌==◌, replicate, slice_index_or}
 use Rattle.std.specs.List.{AllByRecursion, filter}
 use Rattle.std.proofs.lemmas.Bool.Decides.{nat_tests}
 use Rattle.std.proofs.lemmas.List.{length-replicate, length-set}
@@ -35,7 +35,7 @@ use Rattle.om_emit.specs.EmittedAnswer.{with_sums}
 use Rattle.om_emit.specs.GraphCode.{IsCodeOf}
 use Rattle.om_emit.specs.NodeContents.{closed_sums}
 use Rattle.om_emit.proofs.AnswerNodes.{contents-are}
-use Rattle.om_emit.proofs.AnswerTerms.{closed-is, content, ev, rules as rules_of, s}
+use Rattle.om_emit.proofs.AnswerTerms.{closed-is, content, event as event_in, rules as rules_in, s as scattering_in}
 use Rattle.om_emit.proofs.EmittedSums.{emitted_code_gives_sums}
 
 -- sums to which keystone terms add
@@ -90,13 +90,13 @@ zeros x (suc n) (suc k) = zeros x n k
 module _ {E : Type 0} (o : Ops E) (l : Laws o) (c : Code) (p : Process) (formed : IsWellFormed c.model) (of : IsProcessOf c.model p) (g : Graph) (canonical : IsCanonicalOf (reaction_of c.model p) g)
     (code : IsCodeOf c.model p g c) (t : Table E) (e : Incoming E) (wave : ℕ → ℕ → E) where
   abbrev scattering : Scattering
-  scattering = s o l c p formed of g canonical code t e wave
+  scattering = scattering_in o l c p formed of g canonical code t e wave
 
   abbrev rules : FeynmanRules E
-  rules = rules_of o l c p formed of g canonical code t e wave
+  rules = rules_in o l c p formed of g canonical code t e wave
 
   abbrev event : Event E
-  event = ev o l c p formed of g canonical code t e wave
+  event = event_in o l c p formed of g canonical code t e wave
 
   abbrev held : ℕ → Content E
   held = content o l c p formed of g canonical code t e wave

@@ -1,15 +1,13 @@
 -- What the terms and the keystone terms of a canonical graph make of the waves of its nodes is what the code makes of them.
-use Rattle.std.proofs.Common.{◌≡◌, ℕ, zero, suc, ◌+◌, ◌<◌, ◌≤◌, List, [], ◌∷◌, ◌++◌, length, map, Bool, true, false, ◌⊎◌, inl, inr, Option, Some, None, refl, ap, ap₂, sym, subst, ◌∙◌, arith, leb, true≢false}
+use Rattle.std.proofs.Common.{◌≡◌, ℕ, zero, suc, ◌<◌, List, [], ◌∷◌, ◌++◌, length, map, Bool, true, false, ◌⊎◌, inl, inr, Option, Some, None, refl, ap, ap₂, sym, subst, ◌∙◌, arith, leb, true≢false}
 use Rattle.std.proofs.lemmas.Bool.Decides.{nat_tests}
-use Rattle.std.proofs.lemmas.List.{length-map}
 use Rattle.std.specs.Prelude.{slice_get, slice_index_or}
-use Rattle.std.proofs.lemmas.Option.{same_Some, slice_get_cases}
+use Rattle.std.proofs.lemmas.Option.{slice_get_cases}
 use mathlib.Core.Path.{fun_ext}
 use Rattle.om_ring.specs.Members.{In}
 use Rattle.om_ring.specs.Ops.{Ops, Laws, signed}
 use Rattle.om_ring.specs.Sums.{sum_over}
 use Rattle.om_ring.proofs.SumLemmas.{sum_over-ext}
-use Rattle.om_lorentz.specs.declared.structures.Structure.{Structure}
 use Rattle.om_legs.specs.Legs as sets
 use Rattle.om_legs.specs.Splits.{IsSplit}
 use Rattle.om_legs.proofs.Bits.{holds-zero}
@@ -17,19 +15,16 @@ use Rattle.om_legs.proofs.Least.{held_some}
 use Rattle.om_legs.proofs.Operations.{IsLegSet-all_legs, holds-all_legs}
 use Rattle.om_colour.specs.declared.Flow.{Flow}
 use Rattle.om_kernel.specs.declared.waves.Wave.{Wave}
-use Rattle.om_kernel.specs.declared.waves.Wave.TheVariants as waves
 use Rattle.om_kernel.specs.Waves.{Kind, a_scalar, a_row, a_column, a_vector}
 use Rattle.om_kernel.specs.IndexSums.{fused_kind, full_sum, index_sum, kinds}
-use Rattle.om_model.specs.declared.model.Model.{Model}
 use Rattle.om_model.specs.declared.model.Particle.{Particle}
 use Rattle.om_model.specs.declared.model.Vertex.{Vertex}
 use Rattle.om_model.specs.declared.process.Process.{Process}
 use Rattle.om_model.specs.Diagram.{same_numbers, times_in}
 use Rattle.om_model.specs.Entries.{factors_of, feynman_rules}
 use Rattle.om_model.specs.Event.{Event}
-use Rattle.om_model.specs.FermionLines.{Kinds}
 use Rattle.om_model.specs.FeynmanRules.{FeynmanRules, Table}
-use Rattle.om_model.specs.Model.{anti_field, scattering_of, spin_of_field, theory_of}
+use Rattle.om_model.specs.Model.{anti_field, scattering_of, spin_of_field}
 use Rattle.om_model.specs.ModelLines.{kinds_of}
 use Rattle.om_model.specs.Parts.{Part, within}
 use Rattle.om_model.specs.ProcessOf.{IsProcessOf}
@@ -40,45 +35,37 @@ use Rattle.om_model.proofs.Counting.{same_times}
 use Rattle.om_model.proofs.ModelFields.{anti_anti}
 use Rattle.om_graph.specs.declared.Graph.{Graph}
 use Rattle.om_graph.specs.declared.Key.{Key}
-use Rattle.om_graph.specs.declared.KeyTerm.{KeyTerm}
-use Rattle.om_graph.specs.declared.Term.{Term}
-use Rattle.om_graph.specs.Possible.{nodes_at, unsigned, unsigned_key}
 use Rattle.om_graph.specs.Reactions.{reaction_of}
 use Rattle.om_graph.specs.TreeKeys.{IsReaction}
-use Rattle.om_graph.specs.Vertices.{Reaction, Fuses, Closes, fields_of, sets_of}
+use Rattle.om_graph.specs.Vertices.{Fuses, Closes, fields_of, sets_of}
 use Rattle.om_graph.proofs.HaveReactions.{well_formed_have_reactions}
-use Rattle.om_graph.proofs.Lists.{in_map}
-use Rattle.om_graph.proofs.SetNodes.{in_by_number}
 use Rattle.om_keystone.specs.CanonicalGraph.{IsCanonicalOf}
 use Rattle.om_keystone.specs.EdgeRules.{opposite, with_indices}
-use Rattle.om_keystone.specs.NodeWaves.{indices_at, key_value, keys_at, meet_at, node_indices, part_of, term_value}
-use Rattle.om_keystone.proofs.Numbers.{At, at_of, keys_are}
+use Rattle.om_keystone.specs.NodeWaves.{indices_at, keys_at, meet_at, node_indices, part_of}
+use Rattle.om_keystone.proofs.Numbers.{At, keys_are}
 use Rattle.om_keystone.proofs.Numbers.At.{at_none, at_more}
 use Rattle.om_code.specs.declared.code.Code.{Code}
-use Rattle.om_code.specs.declared.slots.Held.{Held}
-use Rattle.om_code.specs.declared.slots.Phase.TheVariants.{Gathering, Ready}
-use Rattle.om_code.specs.Contents.{Content, EnteringWave, entering, empty_content, fused_content, fused_of, made_number, made_wave, open_slot, slots_of, upwards_of, waves_in_slots}
+use Rattle.om_code.specs.Contents.{Content, EnteringWave, entering, empty_content, fused_content, fused_of, made_number, made_wave, open_slot, slots_of, waves_in_slots}
 use Rattle.om_code.specs.Rules.{size_of}
-use Rattle.om_code.specs.Slots.{field_or_0, left_field, slots_of_vertex, union_of}
-use Rattle.om_code.specs.Slots as slots
-use Rattle.om_code.specs.Vertices.{reading_of_vertex, structure_at, structure_of}
+use Rattle.om_code.specs.Slots.{slots_of_vertex}
+use Rattle.om_code.specs.Vertices.{reading_of_vertex, structure_of}
 use Rattle.om_code.specs.Waves.{Incoming, event_of, signed_wave, wave_of}
 use Rattle.om_machine.specs.Events.{kind_of_field}
 use Rattle.om_machine.proofs.FieldKinds.{AreWell, anti-kind, fused-opposite, slots-kinds}
-use Rattle.om_machine.proofs.FieldKinds as kind
+use Rattle.om_machine.proofs.FieldKinds as fields
 use Rattle.om_emit.specs.GraphCode.{IsCodeOf}
 use Rattle.om_emit.proofs.GraphHelds.{as_many_legs, fuse_makes}
 use Rattle.om_emit.proofs.HeldFinds.{fused_held}
 use Rattle.om_emit.proofs.HeldNodes.{gathering_held, ready_held}
 use Rattle.om_emit.proofs.AnswerKernels.{nested, open_edges}
-use Rattle.om_emit.proofs.AnswerMeets.{AreMet, closes-in, entry_of, fuses-in, opens-at, wave-sum}
+use Rattle.om_emit.proofs.AnswerMeets.{AreMet, closes-in, fuses-in, opens-at, wave-sum}
 use Rattle.om_emit.proofs.AnswerSets.{IsSetOf, node_set, other_side, others_are}
-use Rattle.om_emit.proofs.AnswerSlots.{map-map, part_in}
+use Rattle.om_emit.proofs.AnswerSlots.{part_in}
 
-opposite-at : (K : ℕ → Kind) (fs : List ℕ) (k f : ℕ) → slice_get fs k ≡ Some f → slice_index_or (map kind.opposite (map K fs)) k a_scalar ≡ kind.opposite (K f)
-opposite-at K [] k f e = cc
-opposite-at K (g ∷ fs) zero f e = (let same : g ≡ f = cc in ap (λ x. kind.opposite (K x)) same)
-opposite-at K (g ∷ fs) (suc k) f e = opposite-at K fs k f e
+opposite-at : (kind_of : ℕ → Kind) (fs : List ℕ) (k f : ℕ) → slice_get fs k ≡ Some f → slice_index_or (map fields.opposite (map kind_of fs)) k a_scalar ≡ fields.opposite (kind_of f)
+opposite-at kind_of [] k f e = cc
+opposite-at kind_of (g ∷ fs) zero f e = (let same : g ≡ f = cc in ap (λ x. fields.opposite (kind_of x)) same)
+opposite-at kind_of (g ∷ fs) (suc k) f e = opposite-at kind_of fs k f e
 
 signed-of : {E : Type 0} (o : Ops E) (b : Bool) (k : Kind) (f : ℕ → E) → signed_wave o b (wave_of k f) ≡ wave_of k (λ n. signed o b (f n))
 signed-of o false k f = refl
@@ -98,11 +85,11 @@ module _ {E : Type 0} (o : Ops E) (l : Laws o) (c : Code) (p : Process) (formed 
   abbrev pub rules : FeynmanRules E
   rules = feynman_rules o c.model t
 
-  abbrev pub ev : Event E
-  ev = event_of o e
+  abbrev pub event : Event E
+  event = event_of o e
 
-  abbrev pub K : ℕ → Kind
-  K f = kind_of_field particles f
+  abbrev pub kind_of : ℕ → Kind
+  kind_of f = kind_of_field particles f
 
   sized : size_of c ≡ length p.legs
   sized = as_many_legs c.model p formed of g canonical c code
@@ -117,7 +104,7 @@ module _ {E : Type 0} (o : Ops E) (l : Laws o) (c : Code) (p : Process) (formed 
   set_of_node k i = node_set (reaction_of c.model p) (kinds_of particles) reaction g canonical k i
 
   abbrev pub wave_on : ℕ → Key → Wave E
-  wave_on n k = wave_of (K k.field) (wave n)
+  wave_on n k = wave_of (kind_of k.field) (wave n)
 
   abbrev pub content_at : Option Key → ℕ → Content E
   content_at None n = empty_content o c t e
@@ -161,13 +148,13 @@ module _ {E : Type 0} (o : Ops E) (l : Laws o) (c : Code) (p : Process) (formed 
   met-length at_none = refl
   met-length (at_more q a) = ap suc (met-length a)
 
-  met-sum : {ns : List ℕ} {ks : List Key} → At g.nodes ns ks → (j : ℕ) (f : List ℕ → E) → nested o l j (met ns ks) f ≡ meet_at o (node_indices o s rules ev g) g.nodes wave ns f
+  met-sum : {ns : List ℕ} {ks : List Key} → At g.nodes ns ks → (j : ℕ) (f : List ℕ → E) → nested o l j (met ns ks) f ≡ meet_at o (node_indices o s rules event g) g.nodes wave ns f
   unfolding meet_at
   met-sum at_none j f = refl
   met-sum (at_more {n = n} {ns = ns} {y = k} {ys = ks} q a) j f =
       wave-sum o l (spin_of_field particles k.field) _ (wave n) (λ i. nested o l j (met ns ks) (λ is. f (i ∷ is)))
       ∙ sum_over-ext o (rules.indices k.field) _ _ (λ i. ap (o.times (wave n i)) (met-sum a j (λ is. f (i ∷ is))))
-      ∙ ap (λ x. sum_over o (indices_at (node_indices o s rules ev g) x) (λ i. o.times (wave n i) (meet_at o (node_indices o s rules ev g) g.nodes wave ns (λ is. f (i ∷ is))))) (sym q)
+      ∙ ap (λ x. sum_over o (indices_at (node_indices o s rules event g) x) (λ i. o.times (wave n i) (meet_at o (node_indices o s rules event g) g.nodes wave ns (λ is. f (i ∷ is))))) (sym q)
 
   -- a vertex row by what stands there
   vertex_at : (v : ℕ) → v < length c.model.vertices → (x : Vertex) × (slice_get c.model.vertices v ≡ Some x)
@@ -177,7 +164,7 @@ module _ {E : Type 0} (o : Ops E) (l : Laws o) (c : Code) (p : Process) (formed 
   ]
 
   -- the kinds of the fields of its slots
-  slots-are : (v : ℕ) (x : Vertex) → slice_get c.model.vertices v ≡ Some x → map K (s.theory.slots v) ≡ kinds (structure_of c v)
+  slots-are : (v : ℕ) (x : Vertex) → slice_get c.model.vertices v ≡ Some x → map kind_of (s.theory.slots v) ≡ kinds (structure_of c v)
   slots-are v x at =
       let formed_slots = (formed.formed_vertices v x at).pattern.0 in
       rw at (slots-kinds particles x.structure x.fields formed_slots.spins_are formed_slots.fermions)
@@ -217,39 +204,39 @@ module _ {E : Type 0} (o : Ops E) (l : Laws o) (c : Code) (p : Process) (formed 
 
     -- what the term adds to its node
     abbrev added_at : Bool → ℕ → E
-    added_at minus j = signed o minus (meet_at o (node_indices o s rules ev g) g.nodes wave ns (λ is. vertex_entry o s rules ev v ch ((opposite s (part_of k), j) ∷ with_indices (map part_of (keys_at g.nodes ns)) is)))
+    added_at minus j = signed o minus (meet_at o (node_indices o s rules event g) g.nodes wave ns (λ is. vertex_entry o s rules event v ch ((opposite s (part_of k), j) ∷ with_indices (map part_of (keys_at g.nodes ns)) is)))
 
     module _ (x : Vertex) (at : slice_get c.model.vertices v ≡ Some x) where
-      kind-is : fused_kind (structure_of c v) (open_slot (waves_in_slots (s.theory.slots v) (met ns ks ++ up_at s.size ∷ []))) ≡ K k.field
+      kind-is : fused_kind (structure_of c v) (open_slot (waves_in_slots (s.theory.slots v) (met ns ks ++ up_at s.size ∷ []))) ≡ kind_of k.field
       kind-is =
           let u = anti_field particles k.field in
           let w = opens-at o l s reaction.most c t e v ch x at k.legs (met ns ks) are_met u other fit many in
           ap (fused_kind (structure_of c v)) w.1 ∙ fused-opposite (structure_of c v) w.0
-          ∙ ap (λ xs. slice_index_or (map kind.opposite xs) w.0 a_scalar) (sym (slots-are v x at))
-          ∙ opposite-at K (s.theory.slots v) w.0 u w.2
-          ∙ sym (anti-kind particles are-well u) ∙ ap K (anti_anti particles k.field)
+          ∙ ap (λ xs. slice_index_or (map fields.opposite xs) w.0 a_scalar) (sym (slots-are v x at))
+          ∙ opposite-at kind_of (s.theory.slots v) w.0 u w.2
+          ∙ sym (anti-kind particles are-well u) ∙ ap kind_of (anti_anti particles k.field)
 
       sum-is : (j : ℕ) → let qs = waves_in_slots (s.theory.slots v) (met ns ks ++ up_at s.size ∷ []) in
           o.times o.imag (index_sum o (structure_of c v) (reading_of_vertex c v ch) (factors_of o (t.factors v)) (slots_of o c t e qs) (open_slot qs) j)
-          ≡ meet_at o (node_indices o s rules ev g) g.nodes wave ns (λ is. vertex_entry o s rules ev v ch ((opposite s (part_of k), j) ∷ with_indices (map part_of (keys_at g.nodes ns)) is))
+          ≡ meet_at o (node_indices o s rules event g) g.nodes wave ns (λ is. vertex_entry o s rules event v ch ((opposite s (part_of k), j) ∷ with_indices (map part_of (keys_at g.nodes ns)) is))
       sum-is j =
-          let entry : Part → List Part → List ℕ → E = λ q qs is. vertex_entry o s rules ev v ch ((q, j) ∷ with_indices qs is) in
+          let entry : Part → List Part → List ℕ → E = λ q qs is. vertex_entry o s rules event v ch ((q, j) ∷ with_indices qs is) in
           fuses-in o l s reaction.most c t e v ch x at k.legs (met ns ks) are_met (anti_field particles k.field) other fit many j
           ∙ ap₂ (λ q qs. nested o l j (met ns ks) (entry q qs)) (ap (λ b. let q : Part = record { field = anti_field particles k.field; behind = b } in q) (sym (others_are s.size reaction.most k.legs (set_of_node k i)))) (met-parts a ∙ ap (map part_of) (sym (keys_are a)))
           ∙ met-sum a j (entry (opposite s (part_of k)) (map part_of (keys_at g.nodes ns)))
 
-      made-is : (minus : Bool) → wave_at minus s.size ≡ wave_of (K k.field) (added_at minus)
+      made-is : (minus : Bool) → wave_at minus s.size ≡ wave_of (kind_of k.field) (added_at minus)
       made-is minus =
           let qs = waves_in_slots (s.theory.slots v) (met ns ks ++ up_at s.size ∷ []) in
           signed-of o minus (fused_kind (structure_of c v) (open_slot qs)) _
           ∙ ap₂ wave_of kind-is (fun_ext (λ j. ap (signed o minus) (sum-is j)))
 
-    fused-wave : (minus : Bool) → made_wave o c t e minus v ch (gathering_held k) (met ns ks) ≡ wave_of (K k.field) (added_at minus)
+    fused-wave : (minus : Bool) → made_wave o c t e minus v ch (gathering_held k) (met ns ks) ≡ wave_of (kind_of k.field) (added_at minus)
     unfolding made_wave
     fused-wave minus = ap (wave_at minus) sized ∙ (let x = vertex_at v fuse.vertex in made-is x.0 x.1 minus)
 
     -- what the code makes of the nodes
-    pub fused-is : (minus : Bool) → fused_content o c t e minus v ch (map content ns) ≡ (gathering_held k, wave_of (K k.field) (added_at minus))
+    pub fused-is : (minus : Bool) → fused_content o c t e minus v ch (map content ns) ≡ (gathering_held k, wave_of (kind_of k.field) (added_at minus))
     unfolding fused_content
     fused-is minus =
         ap₂ (λ hs qs. (fused_of o c t e v hs, made_wave o c t e minus v ch (fused_of o c t e v hs) qs)) (helds-are a) (entered-are a)
@@ -285,11 +272,11 @@ module _ {E : Type 0} (o : Ops E) (l : Laws o) (c : Code) (p : Process) (formed 
 
     -- what the code makes of the nodes at a keystone
     pub closed-is : (minus : Bool) → made_number o c t e minus v ch (map entering (map content ns))
-        ≡ signed o minus (meet_at o (node_indices o s rules ev g) g.nodes wave ns (λ is. vertex_entry o s rules ev v ch (with_indices (map part_of (keys_at g.nodes ns)) is)))
+        ≡ signed o minus (meet_at o (node_indices o s rules event g) g.nodes wave ns (λ is. vertex_entry o s rules event v ch (with_indices (map part_of (keys_at g.nodes ns)) is)))
     unfolding made_number
     closed-is minus =
         let x = vertex_at v close.vertex in
-        let entry : List Part → List ℕ → E = λ qs is. vertex_entry o s rules ev v ch (with_indices qs is) in
+        let entry : List Part → List ℕ → E = λ qs is. vertex_entry o s rules event v ch (with_indices qs is) in
         ap (λ qs. signed o minus (o.times o.imag (full_sum o (structure_of c v) (reading_of_vertex c v ch) (factors_of o (t.factors v)) (slots_of o c t e (waves_in_slots (slots_of_vertex c v) qs))))) (entered-are a)
         ∙ ap (signed o minus) (closes-in o l s reaction.most c t e v ch x.0 x.1 (sets.all_legs s.size) (met ns ks) key_met key_fit key_many 0
         ∙ ap (λ qs. nested o l 0 (met ns ks) (entry qs)) (met-parts a ∙ ap (map part_of) (sym (keys_are a)))

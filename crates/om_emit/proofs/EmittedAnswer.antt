@@ -1,6 +1,5 @@
 -- What the code of a canonical graph means is the answer to the event.
-use Rattle.std.proofs.Common.{◌≡◌, ◌↔◌, ℕ, zero, suc, List, [], ◌∷◌, length, map, true, ◌⊎◌, inl, inr, refl, ap, sym, subst, ◌∙◌}
-use Rattle.om_ring.specs.Members.{In}
+use Rattle.std.proofs.Common.{◌≡◌, ◌↔◌, ℕ, zero, suc, [], ◌∷◌, length, ◌⊎◌, inl, inr, refl, ap, sym, subst, ◌∙◌}
 use Rattle.om_ring.specs.Ops.{Ops, Laws}
 use Rattle.om_model.specs.declared.model.Model.{Model}
 use Rattle.om_model.specs.declared.process.Process.{Process}
