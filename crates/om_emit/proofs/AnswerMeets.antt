@@ -1,6 +1,7 @@
 -- What meets at a vertex of a code of a canonical graph is what meets at that vertex of the graph.
 use Rattle.std.proofs.Common.{◌≡◌, ℕ, suc, ◌+◌, ◌<◌, ◌≤◌, List, [], ◌∷◌, ◌++◌, length, map, Bool, true, false, not, ◌&&◌, ◌⊎◌, inl, inr, Option, Some, None, refl, ap, sym, subst, ◌∙◌, arith, true≢false}
 use Rattle.std.specs.Prelude.{slice_get}
+use Rattle.std.proofs.lemmas.Simd.{map-map}
 use Rattle.om_ring.specs.Members.{In, Different}
 use Rattle.om_ring.specs.Ops.{Ops, Laws}
 use Rattle.om_ring.specs.Sums.{sum_over}
@@ -37,7 +38,7 @@ use Rattle.om_code.specs.Waves.{Incoming, event_of, wave_of}
 use Rattle.om_machine.specs.Events.{kind_of_spin}
 use Rattle.om_machine.proofs.Each.{Each, each-reordered}
 use Rattle.om_emit.proofs.AnswerNests.{nest-reordered}
-use Rattle.om_emit.proofs.AnswerSlots.{part_in, key_in, AreSlots, map-map, slotted, slotted-alike, slotted-reordered, slotted-fields}
+use Rattle.om_emit.proofs.AnswerSlots.{part_in, key_in, AreSlots, slotted, slotted-alike, slotted-reordered, slotted-fields}
 use Rattle.om_emit.proofs.AnswerKernels.{indices_in, weight_in, nested, open_edges, one_if_open, vertex_value, index_sum-nested, full_sum-nested}
 use Rattle.om_emit.proofs.AnswerSets.{IsSetOf, members_are, least_is, others_are, part_is}
 
@@ -144,7 +145,7 @@ module _ {E : Type 0} (o : Ops E) (l : Laws o) (s : Scattering) (small : s.size 
     have_members = each_in HasMembers ms (λ q i. members_are s.size small q.legs (part_set q i))
 
     leasts_differ : Different (map key_in ms)
-    leasts_differ = subst Different (map-map (λ (q : EnteringWave E). q.legs) sets.least ms) (leasts-differ (map (λ q. q.legs) ms) (λ leg. let shared = met.split.shared leg in let few = one_at_most (sets.holds a leg) in omega arith)
+    leasts_differ = subst Different (map-map sets.least (λ (q : EnteringWave E). q.legs) ms) (leasts-differ (map (λ q. q.legs) ms) (λ leg. let shared = met.split.shared leg in let few = one_at_most (sets.holds a leg) in omega arith)
         (λ x i. let w = in_mapped (λ (q : EnteringWave E). q.legs) x ms i in let set = subst (IsSetOf s.size) (sym w.2) (part_set w.0 w.1) in (set.is_set, set.some)))
       where
         one_at_most : (b : Bool) → bit b ≤ 1
