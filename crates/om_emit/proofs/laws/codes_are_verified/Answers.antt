@@ -1,5 +1,9 @@
 use Rattle.om_emit.proofs.GraphHelds.{fuse_keeps}
-use Rattle.om_emit.proofs.DenPlaces.{all_size}
+use Rattle.om_emit.proofs.GraphRules.{all_keep}
+use Rattle.om_emit.proofs.RowsPlain.{dens_keep}
+use Rattle.om_emit.proofs.ProgramParts.{graph_parts}
+use Rattle.om_emit.proofs.PlainInstrs.{plain_instrs}
+use Rattle.om_emit.proofs.FlowRules.{flows_keep}
 use Rattle.om_emit.proofs.laws.codes_are_verified.Goals as goal
 
 pub returns : goal.returns
