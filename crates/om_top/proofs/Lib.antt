@@ -3,3 +3,4 @@ pub mod Files
 pub mod ProgramLines
 pub mod CallBounds
 pub mod Values
+pub mod ProgramRuns
