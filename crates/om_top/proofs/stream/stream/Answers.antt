@@ -1,0 +1,2 @@
+use Rattle.om_top.proofs.Streams.{starts}
+use Rattle.om_top.proofs.stream.stream.Goals as goal
