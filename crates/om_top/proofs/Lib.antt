@@ -3,6 +3,7 @@ pub mod Files
 pub mod ProgramLines
 pub mod CallBounds
 pub mod Values
+pub mod ProgramRuns
 pub mod Streams
 pub mod CodeAnswers
 pub mod StreamSteps

@@ -2,7 +2,10 @@
 
 mod case;
 mod check;
+mod compile;
 mod eval;
+mod faulty_programs;
 mod models;
+mod programs;
 mod run_program;
 mod words;
