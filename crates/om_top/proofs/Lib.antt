@@ -7,3 +7,5 @@ pub mod ProgramRuns
 pub mod Streams
 pub mod CodeAnswers
 pub mod StreamSteps
+pub mod Refused
+pub mod EvalRuns

@@ -87,13 +87,12 @@ module _ {E : Type 0} (o : Ops E) where
     pub is_graph : IsGraphOf model process graph
     pub is_code : IsCodeOf model process graph c
 
-  -- beside the reading of the file: nothing, or the loading of a code and the events that were given
+  -- beside the reading of the file and the loading of a code: nothing, or the events that were given
   abbrev pub EvalMayAdd : List ℕ → List ℕ → Side → ℕ → Type 0
-  EvalMayAdd file text input n =
-      (n ≡ 0) ⊎ ((c : Code) × IsCodeFor file text c × (events : ℕ) × EventsMayCall c input events × (n ≡ rows_calls c.model + events))
+  EvalMayAdd file text input n = (n ≡ 0) ⊎ ((c : Code) × IsCodeFor file text c × EventsMayCall c input n)
 
   abbrev pub EvalMayCall : Side → List ℕ → Side → ℕ → Type 0
-  EvalMayCall side text input n = (file : List ℕ) × Holds side file × (more : ℕ) × EvalMayAdd file text input more × (n ≡ file_calls file + more)
+  EvalMayCall side text input n = (file : List ℕ) × Holds side file × (more : ℕ) × EvalMayAdd file text input more × (n ≡ 2 * file_calls file + more)
 
   -- beside the loading of the code: nothing, or the events that were given
   abbrev pub RunMayAdd : List ℕ → Side → ℕ → Type 0
