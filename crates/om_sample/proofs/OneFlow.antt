@@ -21,10 +21,14 @@ not_before_itself : numbers_lt no_flow no_flow ≡ false
 unfolding numbers_lt
 not_before_itself = refl
 
+stays : {A : Type 0} (b : Bool) (x y z : A) → b ≡ false → cond b x (cond b y z) ≡ z
+stays true x y z e = cc
+stays false x y z e = refl
+
 insert_again : (lt : List ℕ → List ℕ → Bool) (w : List ℕ) (ws : List (List ℕ)) → lt w w ≡ false → (ws ≡ []) ⊎ (ws ≡ w ∷ []) → insert lt w ws ≡ w ∷ []
 unfolding insert
-insert_again lt w ws h (inl e) = rw e refl
-insert_again lt w ws h (inr e) = rw (e, h, h) refl
+insert_again lt w ws h (inl e) = subst (λ vs. insert lt w vs ≡ w ∷ []) (sym e) refl
+insert_again lt w ws h (inr e) = subst (λ vs. insert lt w vs ≡ w ∷ []) (sym e) (stays (lt w w) (w ∷ w ∷ []) (w ∷ insert lt w []) (w ∷ []) h)
 
 one_of : (lt : List ℕ → List ℕ → Bool) (w : List ℕ) (ts : List Tree) → lt w w ≡ false → (rising_of lt (map (λ t. w) ts) ≡ []) ⊎ (rising_of lt (map (λ t. w) ts) ≡ w ∷ [])
 unfolding rising_of
