@@ -5,3 +5,4 @@ pub mod EventSteps
 pub mod EventFronts
 pub mod LinePieces
 pub mod KindsOfCode
+pub mod FrontsStay

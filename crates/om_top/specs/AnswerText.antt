@@ -5,6 +5,7 @@ use Rattle.om_colour.specs.Texts.{flow_bytes}
 use Rattle.om_model.specs.Answer.{Answer}
 use Rattle.om_model.specs.Answer.Answer.{unbalanced, pole, values}
 use Rattle.om_model.specs.FieldNames.{field_name}
+use Rattle.om_model.specs.Propagator.{EdgeName}
 use Rattle.om_model.specs.declared.model.Model.{Model}
 
 -- legs, joined by plus signs
@@ -15,10 +16,14 @@ set_text ks = join_with_byte 43 (map decimal ks)
 abbrev pub value_text : {E : Type 0} → (E → List ℕ) → List ℕ × E → List ℕ
 value_text show v = flow_bytes (record { ends = v.0 }) ++ codes " " ++ show v.1
 
+-- an inner edge whose denominator has no inverse
+abbrev pub pole_line : Model → EdgeName → List ℕ
+pole_line m name = codes "pole " ++ set_text name.legs ++ codes " " ++ field_name m.particles name.field
+
 -- the lines of an answer without the number of the event
 abbrev pub outcome_lines : {E : Type 0} → (E → List ℕ) → Model → Answer E → List (List ℕ)
 outcome_lines show m unbalanced = codes "unbalanced" ∷ []
-outcome_lines show m (pole name) = (codes "pole " ++ set_text name.legs ++ codes " " ++ field_name m.particles name.field) ∷ []
+outcome_lines show m (pole name) = pole_line m name ∷ []
 outcome_lines show m (values vs) = map (value_text show) vs
 
 -- a line of the answer to event number e

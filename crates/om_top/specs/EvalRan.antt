@@ -8,22 +8,19 @@ use Rattle.om_model.specs.ModelAnswer.{IsModelAnswer}
 use Rattle.om_model.specs.Tree.{Tree}
 use Rattle.om_model.specs.declared.model.Model.{Model}
 use Rattle.om_model.specs.declared.process.Process.{Process}
-use Rattle.om_code.specs.Waves.{Incoming, event_of}
+use Rattle.om_code.specs.Waves.{event_of}
 use Rattle.om_event.specs.declared.kind.WaveKind.{WaveKind}
-use Rattle.om_event.specs.declared.line.Leg.{Leg}
+use Rattle.om_event.specs.Events.{Legs}
+use Rattle.om_event.specs.Next.{incoming_of}
 use Rattle.om_top.specs.AnswerText.{answer_text}
 use Rattle.om_top.specs.Outside.{Side, IsUntouched}
 use Rattle.om_top.specs.Refusals.{WithModel, WithProcess, WithGraph}
 use Rattle.om_top.specs.Streamed.{Streamed, UnlessNone, kinds_of}
 use Rattle.om_top.specs.declared.ending.Ending.{Ending}
 
--- what enters through some legs
-abbrev pub incoming_of : {E : Type 0} → List (Leg E) → Incoming E
-incoming_of legs = record { momenta = map (λ leg. leg.momentum) legs; waves = map (λ leg. leg.wave) legs }
-
 module _ {E : Type 0} (o : Ops E) (show : E → List ℕ) (m : Model) (p : Process) where
   -- for event number e the text of its answer is owed
-  abbrev pub OwesAnswer : ℕ → List (Leg E) → List ℕ → Type 0
+  abbrev pub OwesAnswer : ℕ → Legs E → List ℕ → Type 0
   OwesAnswer e legs text = (a : Answer E) × IsModelAnswer o m p (event_of o (incoming_of legs)) a × (text ≡ answer_text show m e a)
 
   -- the kinds of the waves of the legs

@@ -5,10 +5,10 @@ use Rattle.om_model.specs.Answer.{Answer}
 use Rattle.om_model.specs.ModelTable.{model_table}
 use Rattle.om_code.specs.declared.code.Code.{Code}
 use Rattle.om_emit.specs.EmittedAnswer.{MeansAnswer}
-use Rattle.om_event.specs.declared.line.Leg.{Leg}
+use Rattle.om_event.specs.Events.{Legs}
+use Rattle.om_event.specs.Next.{incoming_of}
 use Rattle.om_machine.specs.Events.{IsMadeFor}
 use Rattle.om_top.specs.AnswerText.{answer_text}
-use Rattle.om_top.specs.EvalRan.{incoming_of}
 use Rattle.om_top.specs.Outside.{Side, IsUntouched}
 use Rattle.om_top.specs.Refusals.{WithProgram}
 use Rattle.om_top.specs.Streamed.{Streamed, UnlessNone, kinds_of}
@@ -17,7 +17,7 @@ use Rattle.om_top.specs.declared.ending.Ending.TheVariants.{NoMemory}
 
 module _ {E : Type 0} (o : Ops E) (show : E → List ℕ) (c : Code) where
   -- for event number e the text of what the code means is owed
-  abbrev pub OwesMeaning : ℕ → List (Leg E) → List ℕ → Type 0
+  abbrev pub OwesMeaning : ℕ → Legs E → List ℕ → Type 0
   OwesMeaning e legs text =
       IsMadeFor c (incoming_of legs) × (a : Answer E) × MeansAnswer o c (model_table o c.model) (incoming_of legs) a × (text ≡ answer_text show c.model e a)
 

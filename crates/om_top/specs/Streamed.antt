@@ -4,11 +4,10 @@ use Rattle.om_ring.specs.Ops.{Ops}
 use Rattle.om_model.specs.declared.model.Particle.{Particle}
 use Rattle.om_kernel.specs.Waves.{Kind, a_scalar, a_row, a_column, a_vector}
 use Rattle.om_machine.specs.Events.{kind_of_field}
-use Rattle.om_event.specs.Events.{Events, Ending as Ended, at_end, bad, too_many, events_of}
+use Rattle.om_event.specs.Events.{Events, Legs, Ending as Ended, at_end, bad, too_many, events_of}
 use Rattle.om_event.specs.declared.cause.Cause.TheVariants.{Cut}
 use Rattle.om_event.specs.declared.kind.WaveKind.{WaveKind}
 use Rattle.om_event.specs.declared.kind.WaveKind.TheVariants.{Scalar, Row, Column, Vector}
-use Rattle.om_event.specs.declared.line.Leg.{Leg}
 use Rattle.om_event.specs.declared.reader.Next.{Next}
 use Rattle.om_event.specs.declared.reader.Next.TheVariants as next
 use Rattle.om_top.specs.Outside.{Side, Failed, Gained, GainedPrefix, Gave, IsDone, IsUntouched}
@@ -38,20 +37,20 @@ abbrev pub IsOpen : Ended → Type 0
 IsOpen ended = (ended ≡ at_end) ⊎ ((n : ℕ) × (k : ℕ) × (ended ≡ bad n k Cut))
 
 -- Owes e legs text: these lines are owed for event number e
-module _ {E : Type 0} (Owes : ℕ → List (Leg E) → List ℕ → Type 0) where
+module _ {E : Type 0} (Owes : ℕ → Legs E → List ℕ → Type 0) where
   -- the lines of events, the first of which has number e
-  abbrev pub Lines : ℕ → List (List (Leg E)) → List ℕ → Type 0
+  abbrev pub Lines : ℕ → List (Legs E) → List ℕ → Type 0
   Lines e [] text = text ≡ []
   Lines e (event ∷ events) text = (first : List ℕ) × (later : List ℕ) × Owes e event first × Lines (e + 1) events later × (text ≡ first ++ later)
 
   -- exactly the lines of these events were appended
-  abbrev pub GainedLines : Side → List (List (Leg E)) → Type 0
+  abbrev pub GainedLines : Side → List (Legs E) → Type 0
   GainedLines out events = (text : List ℕ) × Lines 1 events text × Gained out text
 
   -- a prefix of the lines of the first of these events was appended
-  abbrev pub GainedFirstLines : Side → List (List (Leg E)) → Type 0
+  abbrev pub GainedFirstLines : Side → List (Legs E) → Type 0
   GainedFirstLines out events =
-      (answered : List (List (Leg E))) × (later : List (List (Leg E))) × (text : List ℕ)
+      (answered : List (Legs E)) × (later : List (Legs E)) × (text : List ℕ)
       × (events ≡ answered ++ later) × Lines 1 answered text × GainedPrefix out text
 
   module _ (o : Ops E) (kinds : List WaveKind) (input out : Side) (given : List ℕ) where

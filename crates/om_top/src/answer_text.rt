@@ -1,14 +1,14 @@
 //! The text of the answer to an event.
-ghost use Rattle.std.specs.Prelude.{◌≡◌, ◌+◌, ◌≤◌, ◌++◌, [], length, decimal, codes, ℕ, OnErr, OnOk, Some};
-ghost use Rattle.std.specs.List.{flat_map};
+ghost use Rattle.std.specs.Prelude.{◌≡◌, ◌+◌, ◌≤◌, ◌++◌, [], length, decimal, codes, OnErr, OnOk, Some};
 ghost use Rattle.om_io.specs.Bytes.{AppendsPrefix, after_told};
 ghost use Rattle.om_io.specs.Causes.{HasCause};
 ghost use Rattle.om_code.specs.Meaning.{edge_of_den};
+ghost use Rattle.om_code.specs.declared.code.Den.{Den as DenOf};
 ghost use Rattle.om_emit.specs.EmittedAnswer.{answer_with, with_sums};
 ghost use Rattle.om_machine.specs.Loaded.{answer_of};
 ghost use Rattle.om_machine.specs.declared.answer.Outcome.TheVariants.{Values};
-ghost use Rattle.om_model.specs.Answer.Answer.{pole, values};
-ghost use Rattle.om_top.specs.AnswerText.{answer_line, answer_text, value_text};
+ghost use Rattle.om_model.specs.Answer.Answer.{values};
+ghost use Rattle.om_top.specs.AnswerText.{answer_line, answer_text, pole_line, value_text};
 
 use om_code::Code;
 use om_colour::{Flow, flow_text};
@@ -83,7 +83,7 @@ fn push_value<R: Ring>(ring: &R, number: u32, flow: &Flow, value: R::E, line: &m
 /// Appends the line of a denominator without inverse.
 fn push_pole(code: &Code, number: u32, legs: LegSet, field: u16, line: &mut Line)
     requires { line.old ≡ [] }
-    ensures { let d = record { legs = legs; field = field } in line.new ≡ answer_text (λ (x : ℕ). []) code.now.model number (pole (edge_of_den d)) }
+    ensures { let d : DenOf = record { legs = legs; field = field } in line.new ≡ answer_line number (pole_line code.now.model (edge_of_den d)) }
 {
     push_start(number, line);
     line.push(b"pole ");

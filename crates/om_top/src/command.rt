@@ -70,7 +70,10 @@ fn command_of_two<'a>(word: &str, first: &'a str, second: &'a str) -> Command<'a
 fn sample_of<'a>(seed: &[u8], legs: &[u8]) -> Command<'a>
     ensures { sample_of seed.now legs.now ≡ asked result }
 {
-    match (read_decimal(seed), read_decimal_below(legs, u64::from(MOST_LEGS) + 1)) {
+    match (
+        read_decimal(seed),
+        read_decimal_below(legs, u64::from(MOST_LEGS) + 1),
+    ) {
         (Some(seed), Some(legs)) if legs >= FEWEST_LEGS as u64 => Command::Sample(seed, legs as u8),
         _ => Command::Unknown,
     }

@@ -4,9 +4,7 @@ ghost use Rattle.om_top.specs.Message.{message_of, Told};
 ghost use Rattle.om_top.specs.Outside.{side};
 
 use crate::ending::Ending;
-use crate::faults::{
-    push_event_fault, push_model_fault, push_process_fault, push_program_fault,
-};
+use crate::faults::{push_event_fault, push_model_fault, push_process_fault, push_program_fault};
 use om_graph::MOST_TERMS;
 use om_io::{Sink, write_all};
 use om_ring::Line;

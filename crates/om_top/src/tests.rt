@@ -5,4 +5,5 @@ mod check;
 mod eval;
 mod models;
 mod run_program;
+mod sample;
 mod words;

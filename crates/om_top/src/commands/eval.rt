@@ -32,7 +32,14 @@ pub(crate) fn eval<R: Ring<Mark = L>, F: Folder, S: Source, O: Sink, L>(
         Ok(named) => named,
         Err(ending) => return ending,
     };
-    match load_machine(alloc, ring, &named.model, &named.process, &named.graph, steps) {
+    match load_machine(
+        alloc,
+        ring,
+        &named.model,
+        &named.process,
+        &named.graph,
+        steps,
+    ) {
         Ok(mut machine) => answer_events(alloc, ring, &mut machine, input, out, steps),
         Err(ending) => ending,
     }

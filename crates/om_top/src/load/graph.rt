@@ -11,11 +11,7 @@ use om_ring::NoMemory;
 use std::alloc::Global;
 
 /// The canonical graph of a process. Where there is none, the answer is how the run ends.
-pub(crate) fn load_graph(
-    alloc: Global,
-    model: &Model,
-    process: &Process,
-) -> Result<Pruned, Ending>
+pub(crate) fn load_graph(alloc: Global, model: &Model, process: &Process) -> Result<Pruned, Ending>
     requires accepted { IsWellFormed model.now }
     requires process { IsProcessOf model.now process.now }
     ensures { LoadsGraph model.now process.now result }

@@ -96,4 +96,3 @@ pub(crate) fn check_case(rt: &impl Abort, alloc: Global, case: &Case) -> Result<
     assert_eq!(rt; status, case.status);
     Ok(())
 }
-

@@ -1,6 +1,6 @@
 //! `eval`: answers, and the faults of processes, events and the outside.
 use super::case::{Case, FOUR, check_case};
-use super::models::{CS, MASSIVE, PHI34, PHI3M, QCD, QED, SZ, YUK};
+use super::models::{CS, MASSIVE, PHI3M, PHI34, QCD, QED, SZ, YUK};
 use std::test::Fail;
 
 /// One particle to two.
@@ -13,7 +13,11 @@ const THREE: Case = Case {
 
 /// Two massive particles to eight, at rest.
 const TEN: Case = Case {
-    words: &["eval", "model.toml", "phi phi -> phi phi phi phi phi phi phi phi"],
+    words: &[
+        "eval",
+        "model.toml",
+        "phi phi -> phi phi phi phi phi phi phi phi",
+    ],
     file: Some(PHI3M),
     input: "1 0 0 0 0 1\n2 0 0 0 0 1\n3 0 0 0 0 1\n4 0 0 0 0 1\n5 0 0 0 0 1\n6 0 0 0 0 1\n7 0 0 0 0 1\n8 0 0 0 0 1\n9 0 0 0 0 1\n10 0 0 0 0 1\n",
     out: "1 - 17154492584479948770\n",
@@ -47,10 +51,7 @@ const NO_EVENT: Case = Case {
 const CASES: &[Case] = &[
     THREE,
     FOUR,
-    Case {
-        cut: 1,
-        ..FOUR
-    },
+    Case { cut: 1, ..FOUR },
     Case {
         file: Some(PHI34),
         out: "1 - 70368744177664\n",
@@ -130,18 +131,30 @@ const CASES: &[Case] = &[
         ..FOUR
     },
     Case {
-        words: &["eval", "model.toml", "phi phi -> phi phi phi phi phi phi phi phi / 1+2"],
+        words: &[
+            "eval",
+            "model.toml",
+            "phi phi -> phi phi phi phi phi phi phi phi / 1+2",
+        ],
         out: "1 - 1143632838965329918\n",
         ..TEN
     },
     Case {
-        words: &["eval", "model.toml", "phi phi -> phi phi phi phi phi phi phi phi / 1+2 / 1+3"],
+        words: &[
+            "eval",
+            "model.toml",
+            "phi phi -> phi phi phi phi phi phi phi phi / 1+2 / 1+3",
+        ],
         read_fails: 1,
         out: "no amplitude\n",
         ..TEN
     },
     Case {
-        words: &["eval", "model.toml", "phi phi -> phi phi phi phi phi phi phi phi phi phi"],
+        words: &[
+            "eval",
+            "model.toml",
+            "phi phi -> phi phi phi phi phi phi phi phi phi phi",
+        ],
         input: "1 0 0 0 0 1\n2 0 0 0 0 1\n3 0 0 0 0 1\n4 0 0 0 0 1\n5 0 0 0 0 1\n6 0 0 0 0 1\n7 0 0 0 0 1\n8 0 0 0 0 1\n9 0 0 0 0 1\n10 0 0 0 0 1\n11 0 0 0 0 1\n12 0 0 0 0 1\n",
         out: "1 - 6877883962648156410\n",
         ..TEN
@@ -162,7 +175,11 @@ const CASES: &[Case] = &[
         ..NO_PROCESS
     },
     Case {
-        words: &["eval", "model.toml", "phi phi phi phi phi phi phi phi phi phi phi phi -> phi"],
+        words: &[
+            "eval",
+            "model.toml",
+            "phi phi phi phi phi phi phi phi phi phi phi phi -> phi",
+        ],
         err: "process: 13 legs\n",
         ..NO_PROCESS
     },
