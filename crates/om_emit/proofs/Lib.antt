@@ -24,3 +24,14 @@ pub mod HeldNodes
 pub mod SplitHelds
 pub mod GraphHelds
 pub mod DenPlaces
+pub mod AnswerNests
+pub mod AnswerSlots
+pub mod AnswerKernels
+pub mod AnswerSets
+pub mod AnswerMeets
+pub mod AnswerTerms
+pub mod AnswerNodes
+pub mod AnswerSums
+pub mod AnswerPoles
+pub mod EmittedAnswer
+pub mod AnswerFlows

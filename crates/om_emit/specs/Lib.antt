@@ -6,3 +6,4 @@ pub mod NodeContents
 pub mod EdgesAbove
 pub mod Laws
 pub mod CodesVerified
+pub mod EmittedAnswer
