@@ -8,3 +8,4 @@ pub mod Made
 mod LinesOfScalars
 pub mod OneFlow
 pub mod Process
+pub mod ByCode

@@ -1,18 +1,5 @@
-use Rattle.std.proofs.Common.{◌*◌, length}
-use Rattle.om_sample.specs.Events.{draws_of_event, sample_event}
-use Rattle.om_sample.specs.Generator.{state_after}
-use Rattle.om_sample.specs.Model.{sample_model, sample_process}
-use Rattle.om_sample.specs.Sums.{CodeGives, ModelGives}
-use Rattle.om_sample.specs.declared.limits.TheConstants.{SAMPLE_EVENTS}
-use Rattle.om_sample.proofs.Adding.{adds_up_to}
-use Rattle.om_sample.proofs.Made.{drawn_for}
+use Rattle.om_sample.proofs.ByCode.{samples_by_code}
 use Rattle.om_sample.proofs.laws.samples_by_code.Goals as goal
 
 pub returns : goal.returns
-returns g r =
-    let o = g.R.Ring.ops r.args.ring.now in
-    λ c t seed poles total some scalars same h.
-    let legs = length c.legs in
-    let event = sample_event o seed legs in
-    adds_up_to o event (CodeGives o c t) (ModelGives o sample_model (sample_process legs)) SAMPLE_EVENTS poles total
-    (λ k x gives. same (event k) x (drawn_for o (state_after seed (k * draws_of_event legs)) c some scalars) gives) h
+returns g c = samples_by_code (g.R.Ring.ops c.args.ring.now)
