@@ -14,6 +14,7 @@ use Rattle.om_ring.specs.ResultSteps.{◌>>=◌}
 use Rattle.om_asm.proofs.SpeltLemmas.{same_bytes}
 use Rattle.om_asm.proofs.InstrLaws.{load_found, fuse_found, prop_found, key_found}
 use Rattle.om_asm.proofs.RowLaws.{formed_ok, bind_ok, RowsFound, rows_found}
+use Rattle.om_asm.proofs.AllLines.{all_append}
 
 -- a plain instruction of a part, within its types
 abbrev pub IsOf : ℕ → ℕ → Instr → Type 0
@@ -55,10 +56,6 @@ plain_of version part (i ∷ is) h = (h.0.0, plain_of version part is h.1)
 within_of : (version part : ℕ) (is : List Instr) → AllByRecursion (IsOf version part) is → AllByRecursion InstrInRange is
 within_of version part [] h = tt
 within_of version part (i ∷ is) h = (h.0.2, within_of version part is h.1)
-
-all_append : {A : Type 0} (P : A → Type 0) (xs ys : List A) → AllByRecursion P xs → AllByRecursion P ys → AllByRecursion P (xs ++ ys)
-all_append P [] ys p q = q
-all_append P (x ∷ xs) ys p q = (p.0, all_append P xs ys p.1 q)
 
 parts_lower : (low part : ℕ) (is : List Instr) → low ≤ part → InParts part is → InParts low is
 unfolding InParts

@@ -5,9 +5,11 @@
 #![tactic(auto)]
 
 mod adapters;
+mod buffer;
 mod calls;
 mod folder;
 mod memory;
+mod rows;
 mod sink;
 mod source;
 mod sure;
@@ -16,8 +18,10 @@ mod tests;
 mod whole;
 
 pub use adapters::{StdFolder, StdSink, StdSource};
+pub use buffer::{ROOM_BYTES, flush, make_room};
 pub use folder::Folder;
 pub use memory::{MemFolder, MemSink, MemSource};
+pub use rows::{RowKind, write_each, write_rows};
 pub use sink::Sink;
 pub use source::Source;
 pub use sure::{SureFolder, SureSink, SureSource};

@@ -19,6 +19,7 @@ pub mod vertices;
 pub mod waves;
 
 pub use edges::propagate;
+pub use vectors::plus_four;
 pub use vertices::{close, fuse};
 pub use waves::{Slot, Slots, Wave};
 

@@ -11,8 +11,9 @@ use Rattle.om_code.specs.declared.code.Instr.{Instr}
 use Rattle.om_code.specs.declared.code.Instr.TheVariants.{Load, Fuse, Prop, Key}
 use Rattle.om_code.specs.declared.code.Code.{Code}
 use Rattle.om_model.specs.FieldNames.{field_name}
-use Rattle.om_program_text.specs.Words.{place_word, sign_word, product_word, set_word}
+use Rattle.om_program_text.specs.Words.{place_word, sign_word, product_word}
 use Rattle.om_model.specs.Words.{spin_word, structure_word, colour_word}
+use Rattle.om_model.specs.LegSetText.{leg_set_word}
 
 -- the words of a line, each a list of bytes
 abbrev pub Words : Type 0
@@ -48,7 +49,7 @@ abbrev pub flow_words : Flow → Words
 flow_words w = codes "flow" ∷ flow_bytes w ∷ []
 
 abbrev pub den_words : List Particle → Den → Words
-den_words particles d = codes "den" ∷ set_word d.legs ∷ field_name particles d.field ∷ []
+den_words particles d = codes "den" ∷ leg_set_word d.legs ∷ field_name particles d.field ∷ []
 
 -- version 1 has no such line
 abbrev pub slots_lines : ℕ → ℕ → List Words

@@ -4,13 +4,13 @@ ghost use Rattle.om_program_text.specs.ProgramText.{line_text, instr_words, load
 ghost use Rattle.om_code.specs.Plain.{IsPlainInstr, IsLoadSlot, IsPlace};
 ghost use Rattle.std.specs.List.{AllByRecursion};
 
-use crate::buffer::make_room;
+use crate::buffer::{PART_BYTES, make_room};
 use crate::rows::RowKind;
 use crate::words::{push_place, sign_word};
 use om_code::Instr;
 use om_io::{Failed, Sink};
 use om_legs::Branches;
-use om_ring::Line;
+use om_ring::{LINE_BYTES, Line};
 
 /// The instructions of a version.
 #[derive(Drop)]
@@ -33,7 +33,7 @@ impl RowKind for InstrLines {
 }
 
 fn push_instr(version: u8, instr: &Instr, line: &mut Line)
-    requires free { length line.old + 160 ≤ 512 }
+    requires free { length line.old + PART_BYTES ≤ LINE_BYTES }
     requires plain { IsPlainInstr version instr.now }
     ensures { line.new ≡ line.old ++ line_text (instr_words version instr.now) }
 {
@@ -70,7 +70,7 @@ fn push_instr(version: u8, instr: &Instr, line: &mut Line)
 }
 
 fn push_load(version: u8, to: u32, leg: u8, line: &mut Line)
-    requires free { length line.old + 160 ≤ 512 }
+    requires free { length line.old + PART_BYTES ≤ LINE_BYTES }
     requires plain { IsLoadSlot version to leg }
     ensures { line.new ≡ line.old ++ line_text (load_words version to leg) }
 {
@@ -83,9 +83,15 @@ fn push_load(version: u8, to: u32, leg: u8, line: &mut Line)
     line.push(b"\n");
 }
 
+// The most bytes behind the first word of a fuse or key line.
+const JOINT_BYTES: usize = 150;
+
+// The most bytes of its branches.
+const BRANCHES_BYTES: usize = 84;
+
 // What follows the first word of a fuse or key line: where it goes to, the sign, the vertex, the choice, the branches.
 fn push_joint(to: u32, minus: bool, vertex: u32, choice: u8, branches: &Branches, line: &mut Line)
-    requires free { length line.old + 150 ≤ 512 }
+    requires free { length line.old + JOINT_BYTES ≤ LINE_BYTES }
     requires to { IsPlace to }
     requires vertex { IsPlace vertex }
     requires branches { AllByRecursion IsPlace branches.now.nodes }
@@ -104,10 +110,10 @@ fn push_joint(to: u32, minus: bool, vertex: u32, choice: u8, branches: &Branches
 
 // Each branch behind a space.
 fn push_branches(branches: &Branches, line: &mut Line)
-    requires free { length line.old + 84 ≤ 512 }
+    requires free { length line.old + BRANCHES_BYTES ≤ LINE_BYTES }
     requires branches { AllByRecursion IsPlace branches.now.nodes }
     ensures words { line.new ≡ line.old ++ spaced (branch_words branches.now) }
-    ensures short { length line.new ≤ length line.old + 84 }
+    ensures short { length line.new ≤ length line.old + BRANCHES_BYTES }
 {
     for node in &branches.nodes[..usize::from(branches.count)] {
         line.push(b" ");

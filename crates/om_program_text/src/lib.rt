@@ -11,5 +11,4 @@ mod rows;
 mod words;
 mod writer;
 
-pub use words::push_set;
 pub use writer::write_code;

@@ -7,16 +7,17 @@ ghost use Rattle.om_program_text.specs.Parts.{names_text, particle_parts, vertex
 ghost use Rattle.om_program_text.specs.Words.{product_word};
 ghost use Rattle.om_model.specs.Words.{spin_word as spin_word_of, structure_word as structure_word_of, colour_word as colour_word_of};
 ghost use Rattle.om_program_text.specs.Writing.{Writes, outlet, all_of};
-ghost use Rattle.om_code.specs.Plain.{IsPlainParticle, IsPlainVertex, IsNamed, IsProduct};
+ghost use Rattle.om_model.specs.Rules.{HasLength, HasLengths};
+ghost use Rattle.om_code.specs.Plain.{IsPlainVertex, IsNamed};
 ghost use Rattle.om_model.specs.FieldNames.{field_name as field_name_of};
 
-use crate::buffer::make_room;
+use crate::buffer::{PART_BYTES, make_room};
 use crate::rows::{RowKind, write_each, write_rows};
 use om_colour::Colour;
 use om_io::{Failed, Sink};
 use om_lorentz::Structure;
 use om_model::{Particle, Product, Vertex, colour_word, field_name, spin_word, structure_word};
-use om_ring::{Line, List, Numeral, show_numeral};
+use om_ring::{LINE_BYTES, Line, List, Numeral, show_numeral};
 
 /// The particles.
 #[derive(Drop)]
@@ -25,7 +26,7 @@ pub(crate) struct ParticleLines;
 impl RowKind for ParticleLines {
     type Row = Particle;
 
-    ghost plain = { λ _ p. IsPlainParticle p };
+    ghost plain = { λ _ p. HasLengths p };
 
     ghost text = { λ _ p. line_text (particle_words p) };
 
@@ -60,7 +61,7 @@ fn write_names<W: Sink>(particle: &Particle, to: &mut W, line: &mut Line) -> Res
 }
 
 fn push_names(particle: &Particle, line: &mut Line)
-    requires { length line.old + 160 ≤ 512 }
+    requires { length line.old + PART_BYTES ≤ LINE_BYTES }
     ensures { let p = particle.now in line.new ≡ line.old ++ names_text p }
 {
     line.push(b"particle ");
@@ -209,7 +210,7 @@ impl RowKind for VertexFactors {
 
     type Row = Product;
 
-    ghost plain = { λ _ p. IsProduct p };
+    ghost plain = { λ _ p. HasLength p };
 
     ghost text = { λ _ p. 32 ∷ product_word p };
 

@@ -7,14 +7,14 @@ ghost use Rattle.om_program_text.specs.ProgramText.{lines_text, program_text, sl
 ghost use Rattle.om_program_text.specs.Parts.{head_text, model_parts, process_parts, instr_parts, program_parts};
 ghost use Rattle.om_code.specs.Plain.{IsPlain};
 
-use crate::buffer::{flush, make_room};
+use crate::buffer::{PART_BYTES, flush, make_room};
 use crate::instr_lines::InstrLines;
 use crate::model_lines::{ParticleLines, VertexLines};
 use crate::process_lines::{DenLines, FlowLines, LegLines};
 use crate::rows::write_rows;
 use om_code::Code;
 use om_io::{Failed, Sink};
-use om_ring::Line;
+use om_ring::{LINE_BYTES, Line};
 
 /// Appends the text of a code. It takes no memory.
 ///
@@ -82,7 +82,7 @@ fn write_head<W: Sink>(code: &Code, to: &mut W, line: &mut Line) -> Result<(), F
 }
 
 fn push_head(code: &Code, line: &mut Line)
-    requires { length line.old + 160 ≤ 512 }
+    requires { length line.old + PART_BYTES ≤ LINE_BYTES }
     ensures { let c = code.now in line.new ≡ line.old ++ (head_text c) }
 {
     line.push(b"omega ");

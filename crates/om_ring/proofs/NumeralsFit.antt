@@ -4,9 +4,8 @@ use Rattle.std.proofs.lemmas.Bool.{ltb-true}
 use Rattle.om_ring.specs.declared.numeral.Numeral.{Numeral}
 use Rattle.om_ring.specs.declared.numeral.NumeralFault.{NumeralFault}
 use Rattle.om_ring.specs.declared.numeral.NumeralFault.TheVariants.{BadByte, TooBig}
-use Rattle.om_ring.specs.Numerals.{Spelling, numerator_of, denominator_of}
+use Rattle.om_ring.specs.Numerals.{NumeralFits, Spelling, numerator_of, denominator_of}
 use Rattle.om_ring.specs.NumeralOf.{Stage, start, number, nought, digits, whole, spelling, fraction, fitting, said, ended, next_stage, answer_from, numeral_of}
-use Rattle.om_asm.specs.InRange.{NumeralFits}
 
 abbrev num_of : Result Numeral NumeralFault → ℕ
 num_of (Ok x) = x.num
