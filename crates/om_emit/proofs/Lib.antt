@@ -17,7 +17,6 @@ pub mod Emitted
 pub mod NodeFinds
 pub mod CodeSums
 pub mod EmittedSums
-pub mod NodeFine
 pub mod DenEdges
 pub mod HeldFinds
 pub mod HeldNodes
@@ -35,3 +34,11 @@ pub mod AnswerSums
 pub mod AnswerPoles
 pub mod EmittedAnswer
 pub mod AnswerFlows
+pub mod GraphRules
+pub mod RowsPlain
+pub mod ProgramParts
+pub mod PlainInstrs
+pub mod LineEnds
+pub mod NodeLines
+pub mod FlowRules
+pub mod CodesVerified

@@ -31,7 +31,7 @@ GraphCodeGivesSums W S plus = (blank : W) (sums : S) (m : Meaning W S) (model : 
     → IsBuilt graph → AreNodeContents {S = S} plus blank m (den_place model n graph) graph.terms held 0 graph.nodes
     → IsSlotPlan (register_lines model n graph) plan
     → (run plus (map (step_of m) (map (placed_op plan) (register_ops model n graph))) (start blank sums)).sums
-        ≡ closed_sums m held sums graph.keys
+    ≡ closed_sums m held sums graph.keys
 
 -- with the slots of any slot plan the instructions of a graph find what they found in the registers of its nodes, no slot gathers in
 -- the end, and no fuse has its own slot among its branches
@@ -57,8 +57,8 @@ abbrev pub EmittedCodeGivesSums : {E : Type 0} → Ops E → Type 0
 EmittedCodeGivesSums {E} o =
     (model : Model) (process : Process) (graph : Graph) (code : Code) (t : Table E) (e : Incoming E) (held : ℕ → Content E)
     → IsCodeOf model process graph code → IsBuilt graph → (let m = code_meaning o code t e in
-        AreNodeContents {S = List E} (plus_content o code t e) (empty_content o code t e) m (den_place model (length process.legs) graph)
-        graph.terms held 0 graph.nodes
+    AreNodeContents {S = List E} (plus_content o code t e) (empty_content o code t e) m (den_place model (length process.legs) graph)
+    graph.terms held 0 graph.nodes
     → sums_of o code t e ≡ closed_sums m held (replicate (length code.flows) o.zero) graph.keys)
 
 -- the code of a graph has as many slots as the width of its instruction list, and no slot plan has fewer

@@ -4,6 +4,6 @@ pub mod GraphCode
 pub mod GraphWalk
 pub mod NodeContents
 pub mod EdgesAbove
+pub mod Counts
 pub mod Laws
-pub mod CodesVerified
 pub mod EmittedAnswer
