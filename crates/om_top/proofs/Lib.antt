@@ -1,2 +1,6 @@
 pub mod Short
 pub mod Sampled
+pub mod Files
+pub mod ProgramLines
+pub mod CallBounds
+pub mod Values

@@ -33,7 +33,7 @@ file_calls file = 200 * rows_read (form_of file)
 -- the loading of the code of a text, where it has one
 abbrev pub loading_calls : Result Code BadLine → ℕ
 loading_calls (Ok c) = rows_calls c.model
-loading_calls (Err bad) = 0
+loading_calls (Err line) = 0
 
 abbrev pub program_calls : List ℕ → ℕ
 program_calls file = loading_calls (program_of file)

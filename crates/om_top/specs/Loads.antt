@@ -1,5 +1,5 @@
 -- What the files and texts that words name give: a model, a process, a graph, a program.
-use Rattle.std.specs.Prelude.{ℕ, ◌≡◌, ◌≤◌, ◌<◌, List, length, IfSome, Result, Ok, Err}
+use Rattle.std.specs.Prelude.{ℕ, ◌≡◌, ◌^◌, ◌≤◌, ◌<◌, List, length, IfSome, Result, Ok, Err}
 use Rattle.om_ring.specs.Ops.{Ops}
 use Rattle.om_model.specs.ProcessText.{process_of}
 use Rattle.om_model.specs.declared.model.Model.{Model}
@@ -194,7 +194,7 @@ module _ {E : Type 0} (o : Ops E) where
   pub record IsLoaded (m : LoadedCode E) : Type 0 where
     pub table : SameTable o (table_of o m) (model_table o m.code.model)
     pub kept : KeepsInverses o m.code m.masses
-    pub verified : IsVerified m.code
+    pub few : length m.code.flows < 2 ^ 32
 
   -- what a model, a process and its graph are by their names
   pub record AreNamed (file : Side) (text : List ℕ) (m : Model) (p : Process) (g : Graph) : Type 0 where

@@ -1,5 +1,5 @@
 //! The text of the answer to an event.
-ghost use Rattle.std.specs.Prelude.{◌≡◌, ◌+◌, ◌≤◌, ◌++◌, [], length, decimal, codes, OnErr, OnOk, Some};
+ghost use Rattle.std.specs.Prelude.{◌≡◌, ◌+◌, ◌<◌, ◌≤◌, ◌^◌, ◌++◌, [], length, decimal, codes, OnErr, OnOk, Some};
 ghost use Rattle.om_io.specs.Bytes.{AppendsPrefix, after_told};
 ghost use Rattle.om_io.specs.Causes.{HasCause};
 ghost use Rattle.om_code.specs.Meaning.{edge_of_den};
@@ -27,7 +27,8 @@ pub(crate) fn write_answer<R: Ring, O: Sink>(
     outcome: Outcome,
     out: &mut O,
 ) -> Result<(), Failed>
-    requires { machine.now.outcome ≡ Some outcome }
+    requires last { machine.now.outcome ≡ Some outcome }
+    requires few { length machine.now.code.flows < 2 ^ 32 }
     ensures ok { let m = machine.now in
         OnOk result (O.written out.new ≡ after_told (O.written out.old) (answer_text (R.text ring.now) m.code.model number (answer_with m.code.flows (answer_of outcome m.sums)))) }
     ensures err { let m = machine.now in
@@ -53,7 +54,8 @@ fn write_values<R: Ring, O: Sink>(
     number: u32,
     out: &mut O,
 ) -> Result<(), Failed>
-    requires { machine.now.outcome ≡ Some Values }
+    requires last { machine.now.outcome ≡ Some Values }
+    requires few { length machine.now.code.flows < 2 ^ 32 }
     ensures ok { let m = machine.now in
         OnOk result (O.written out.new ≡ after_told (O.written out.old) (answer_text (R.text ring.now) m.code.model number (values (with_sums m.code.flows m.sums)))) }
     ensures err { let m = machine.now in
