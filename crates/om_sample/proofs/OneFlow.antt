@@ -1,16 +1,13 @@
 -- Diagrams over the model of a sample have one flow at most, since no line goes through them.
-use Rattle.std.proofs.Common.{◌≡◌, ℕ, ◌≤◌, ◌⊎◌, inl, inr, Bool, true, false, cond, List, [], ◌∷◌, length, map, Option, Some, refl, ap, sym, ◌∙◌, arith, subst}
-use Rattle.std.specs.Prelude.{slice_get}
+use Rattle.std.proofs.Common.{◌≡◌, ℕ, ◌≤◌, ◌⊎◌, inl, inr, Bool, true, false, cond, List, [], ◌∷◌, length, map, refl, ap, sym, arith, subst}
 use Rattle.om_model.specs.Lines.{Lines}
-use Rattle.om_model.specs.ModelLines.{lines_of}
 use Rattle.om_model.specs.Order.{insert, numbers_lt, rising_of}
 use Rattle.om_model.specs.ScalarRules.{HasColourlessScalars}
 use Rattle.om_model.specs.Tree.{Tree}
 use Rattle.om_model.specs.declared.model.Particle.{Particle}
-use Rattle.om_model.specs.declared.process.Process.{Process}
 use Rattle.om_sample.specs.Laws.{SampleHasOneFlow}
 use Rattle.om_sample.specs.Model.{sample_model, sample_particle}
-use Rattle.om_sample.specs.NoLines.{no_flow, no_lines}
+use Rattle.om_sample.specs.NoLines.{no_flow}
 use Rattle.om_sample.proofs.Accepted.{one_row}
 use Rattle.om_sample.proofs.LinesOfScalars.{lines_are}
 

@@ -1,5 +1,5 @@
 -- The process of a sample is one over its model.
-use Rattle.std.proofs.Common.{◌≡◌, ℕ, zero, suc, ◌+◌, ◌-◌, ◌<◌, ◌≤◌, ◌⊎◌, inl, inr, Bool, true, List, [], ◌∷◌, length, map, replicate, Option, Some, None, refl, ap, sym, ◌∙◌, arith, subst}
+use Rattle.std.proofs.Common.{◌≡◌, ℕ, zero, suc, ◌-◌, ◌≤◌, inl, inr, true, [], ◌∷◌, length, map, replicate, Some, refl, ap, sym, ◌∙◌, arith, subst}
 use Rattle.std.specs.Prelude.{get_or, slice_get}
 use Rattle.std.specs.Option.{option_map}
 use Rattle.std.proofs.lemmas.Bool.{cases_order}
@@ -7,13 +7,12 @@ use Rattle.std.proofs.lemmas.Option.{get_or_from_slice_get, slice_get-map, slice
 use Rattle.std.proofs.lemmas.List.{get_or-replicate, get_or_past, length-replicate}
 use Rattle.om_kernel.specs.Waves.{a_scalar}
 use Rattle.om_model.specs.Model.{is_field}
-use Rattle.om_model.specs.ProcessOf.{IsNamedEdge, IsProcessOf}
 use Rattle.om_model.specs.declared.process.Leg.{Leg}
 use Rattle.om_code.specs.declared.code.Code.{Code}
 use Rattle.om_machine.specs.Events.{kind_of_field}
 use Rattle.om_sample.specs.Events.{HasScalarLegs}
 use Rattle.om_sample.specs.Laws.{SampleProcessFits}
-use Rattle.om_sample.specs.Model.{incoming_leg, outgoing_leg, sample_model, sample_particle, sample_process}
+use Rattle.om_sample.specs.Model.{outgoing_leg, sample_model, sample_particle, sample_process}
 
 pub legs_are_many : (legs : ℕ) → 1 ≤ legs → length (sample_process legs).legs ≡ legs
 legs_are_many legs some = ap suc (length-replicate (legs - 1) outgoing_leg) ∙ omega (arith, some)
