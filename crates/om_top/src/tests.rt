@@ -3,6 +3,7 @@
 mod case;
 mod check;
 mod eval;
+mod graph;
 mod models;
 mod run_program;
 mod sample;
