@@ -6,7 +6,8 @@ use Rattle.om_code.specs.declared.code.Instr.{Instr}
 use Rattle.om_code.specs.declared.code.Instr.TheVariants.{Load, Fuse, Prop, Key}
 use Rattle.om_code.specs.Plain.{IsPlain}
 use Rattle.om_asm.specs.declared.fault.AsmFault.{AsmFault}
-use Rattle.om_program_text.specs.ProgramText.{Words, lines_text, particle_words, vertex_words, leg_words, flow_words, den_words, slots_lines, instr_words, program_lines, program_text}
+use Rattle.om_io.specs.Lines.{Words, lines_text}
+use Rattle.om_program_text.specs.ProgramText.{particle_words, vertex_words, leg_words, flow_words, den_words, slots_lines, instr_words, program_lines, program_text}
 use Rattle.om_asm.specs.Lines.{At, lines_of}
 use Rattle.om_asm.specs.Rows.{GivesNothing, place}
 use Rattle.om_asm.specs.Program.{program_at, program_of}

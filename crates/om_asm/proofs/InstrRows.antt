@@ -5,7 +5,8 @@ use Rattle.std.specs.Str.{bytes_eq}
 use Rattle.std.proofs.lemmas.List.{map-append}
 use Rattle.om_code.specs.declared.code.Instr.{Instr}
 use Rattle.om_code.specs.Plain.{IsPlainInstr, InParts, part_of}
-use Rattle.om_program_text.specs.ProgramText.{Words, instr_words}
+use Rattle.om_io.specs.Lines.{Words}
+use Rattle.om_program_text.specs.ProgramText.{instr_words}
 use Rattle.om_asm.specs.InRange.{InstrInRange}
 use Rattle.om_asm.specs.Lines.{At}
 use Rattle.om_asm.specs.Instrs.{load_of, fuse_of, prop_of, key_of}

@@ -12,7 +12,8 @@ use Rattle.om_code.specs.Plain.{IsNamed, IsPlainDen}
 use Rattle.om_model.specs.FieldNames.{field_name}
 use Rattle.om_asm.specs.declared.fault.AsmKind.{AsmKind}
 use Rattle.om_asm.specs.declared.fault.AsmKind.TheVariants.{Grammar}
-use Rattle.om_program_text.specs.ProgramText.{Words, leg_words, den_words, particle_words}
+use Rattle.om_io.specs.Lines.{Words}
+use Rattle.om_program_text.specs.ProgramText.{leg_words, den_words, particle_words}
 use Rattle.om_program_text.specs.Words.{product_word}
 use Rattle.om_model.specs.LegSetText.{leg_set_word, leg_set_of_word}
 use Rattle.om_model.specs.Words.{spin_word, colour_word}

@@ -20,7 +20,7 @@ use Rattle.om_model.specs.FieldNames.{field_named, field_from}
 use Rattle.om_model.specs.declared.model.Particle.{Particle}
 use Rattle.om_code.specs.Plain.{IsNamed, IsPlainFlow}
 use Rattle.om_model.specs.FieldNames.{name_in, field_name}
-use Rattle.om_program_text.specs.ProgramText.{Words}
+use Rattle.om_io.specs.Lines.{Words}
 use Rattle.om_program_text.specs.Words.{product_word}
 use Rattle.om_model.specs.LegSetText.{leg_set_word, leg_set_of_word, legs_among, legs_read, numbers_above}
 use Rattle.om_model.specs.Words.{spin_word, structure_word, colour_word}

@@ -16,7 +16,7 @@ use Rattle.om_code.specs.Plain.{IsNamed}
 use Rattle.om_model.specs.FieldNames.{field_name}
 use Rattle.om_model.proofs.WordLaws.{words_are_read}
 use Rattle.om_asm.specs.declared.fault.AsmKind.TheVariants.{Grammar}
-use Rattle.om_program_text.specs.ProgramText.{Words}
+use Rattle.om_io.specs.Lines.{Words}
 use Rattle.om_program_text.specs.Words.{product_word}
 use Rattle.om_model.specs.Words.{spin_word, structure_word, colour_word}
 use Rattle.om_ring.specs.OptionSteps.{◌>>=◌}

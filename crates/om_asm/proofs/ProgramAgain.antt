@@ -13,7 +13,8 @@ use Rattle.om_code.specs.declared.code.Code.{Code}
 use Rattle.om_code.specs.Plain.{IsPlain, IsPlainVertex, IsNamed, IsPlainFlow, IsPlainDen, registers_named}
 use Rattle.om_asm.specs.declared.reader.Process.{Process}
 use Rattle.om_asm.specs.InRange.{ParticleInRange, VertexInRange, CodeInRange}
-use Rattle.om_program_text.specs.ProgramText.{Words, version_words, model_words, particle_words, vertex_words, leg_words, flow_words, den_words, slots_lines, instr_words, end_words, program_lines}
+use Rattle.om_io.specs.Lines.{Words}
+use Rattle.om_program_text.specs.ProgramText.{version_words, model_words, particle_words, vertex_words, leg_words, flow_words, den_words, slots_lines, instr_words, end_words, program_lines}
 use Rattle.om_asm.specs.Lines.{At}
 use Rattle.om_asm.specs.Heads.{version_of, model_name_of}
 use Rattle.om_asm.specs.Reading.{particle_row, leg_row, den_row}

@@ -7,7 +7,8 @@ use Rattle.om_model.specs.declared.model.Vertex.{Vertex}
 use Rattle.om_code.specs.declared.code.Code.{Code}
 use Rattle.om_asm.specs.declared.fault.AsmKind.TheVariants.{Grammar}
 use Rattle.om_asm.specs.declared.reader.Process.{Process}
-use Rattle.om_program_text.specs.ProgramText.{Words, version_words, model_words, end_words}
+use Rattle.om_io.specs.Lines.{Words}
+use Rattle.om_program_text.specs.ProgramText.{version_words, model_words, end_words}
 use Rattle.om_asm.specs.Lines.{At}
 use Rattle.om_asm.specs.Heads.{version_word, version_of, model_name_of, end_of}
 use Rattle.om_asm.specs.Reading.{name_of, particle_row, leg_row, den_row}

@@ -8,7 +8,8 @@ use Rattle.om_model.specs.declared.model.Vertex.{Vertex}
 use Rattle.om_code.specs.Plain.{IsPlainVertex}
 use Rattle.om_model.specs.FieldNames.{field_name}
 use Rattle.om_asm.specs.declared.fault.AsmKind.{AsmKind}
-use Rattle.om_program_text.specs.ProgramText.{Words, vertex_words}
+use Rattle.om_io.specs.Lines.{Words}
+use Rattle.om_program_text.specs.ProgramText.{vertex_words}
 use Rattle.om_program_text.specs.Words.{product_word}
 use Rattle.om_model.specs.Words.{structure_word}
 use Rattle.om_asm.specs.Lines.{word_by}

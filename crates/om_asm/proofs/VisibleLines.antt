@@ -14,8 +14,10 @@ use Rattle.om_model.specs.FieldNames.{field_name}
 use Rattle.om_asm.specs.declared.fault.AsmFault.{AsmFault}
 use Rattle.om_ring.specs.Numerals.{NumeralFits}
 use Rattle.om_asm.specs.InRange.{ParticleInRange, VertexInRange, InstrInRange, CodeInRange}
-use Rattle.om_program_text.specs.ProgramText.{Words, version_words, particle_words, vertex_words, leg_words, flow_words, den_words, instr_words, program_lines, program_text}
-use Rattle.om_program_text.specs.Words.{product_word, place_word}
+use Rattle.om_io.specs.Lines.{Words}
+use Rattle.om_program_text.specs.ProgramText.{version_words, particle_words, vertex_words, leg_words, flow_words, den_words, instr_words, program_lines, program_text}
+use Rattle.om_model.specs.TermText.{place_word}
+use Rattle.om_program_text.specs.Words.{product_word}
 use Rattle.om_asm.specs.Lines.{At, lines_of}
 use Rattle.om_asm.specs.Rows.{BadLine, GivesNothing, place}
 use Rattle.om_asm.specs.Program.{program_at}

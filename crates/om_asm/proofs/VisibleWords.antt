@@ -14,8 +14,9 @@ use Rattle.om_colour.specs.declared.Flow.{Flow}
 use Rattle.om_colour.specs.Texts.{flow_bytes, items_text, line_items}
 use Rattle.om_colour.specs.declared.texts.Extent.TheVariants.{Diagram}
 use Rattle.om_model.specs.Name.{is_name, is_name_byte}
-use Rattle.om_program_text.specs.ProgramText.{Words}
-use Rattle.om_program_text.specs.Words.{place_word, sign_word, product_word}
+use Rattle.om_io.specs.Lines.{Words}
+use Rattle.om_model.specs.TermText.{place_word, sign_word}
+use Rattle.om_program_text.specs.Words.{product_word}
 use Rattle.om_model.specs.LegSetText.{leg_set_word}
 use Rattle.om_model.specs.Words.{spin_word, structure_word, colour_word}
 use Rattle.om_ring.specs.Numerals.{NumeralFits}

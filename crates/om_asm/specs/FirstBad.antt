@@ -8,7 +8,8 @@ use Rattle.om_lorentz.specs.declared.structures.Structure.{Structure}
 use Rattle.om_model.specs.Name.{is_name}
 use Rattle.om_code.specs.declared.code.Code.{Code}
 use Rattle.om_code.specs.Plain.{IsPlain}
-use Rattle.om_program_text.specs.ProgramText.{Words, program_lines}
+use Rattle.om_io.specs.Lines.{Words}
+use Rattle.om_program_text.specs.ProgramText.{program_lines}
 use Rattle.om_program_text.specs.Words.{product_word}
 use Rattle.om_model.specs.LegSetText.{leg_set_word}
 use Rattle.om_model.specs.Words.{structure_word}

@@ -4,7 +4,7 @@ use Rattle.std.specs.Str.{bytes_eq}
 use Rattle.std.specs.List.{slice_split}
 use Rattle.om_colour.specs.declared.Flow.{Flow}
 use Rattle.om_colour.specs.Texts.{flow_bytes}
-use Rattle.om_program_text.specs.ProgramText.{Words}
+use Rattle.om_io.specs.Lines.{Words}
 use Rattle.om_asm.specs.Lines.{word_by, no_more}
 use Rattle.om_ring.specs.OptionSteps.{◌>>=◌}
 use Rattle.om_asm.specs.Spelt.{end_of}

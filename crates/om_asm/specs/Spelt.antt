@@ -3,7 +3,7 @@ use Rattle.std.specs.Prelude.{ℕ, ◌+◌, ◌-◌, ◌^◌, ◌==◌, if◌the
 use Rattle.std.specs.Str.{bytes_eq}
 use Rattle.om_ring.specs.Spelt.{spelt, decimal_below}
 use Rattle.om_ring.specs.OptionSteps.{◌>>=◌}
-use Rattle.om_program_text.specs.Words.{place_word}
+use Rattle.om_model.specs.TermText.{place_word}
 use Rattle.om_legs.specs.declared.leg_set.TheConstants.{MOST_LEGS}
 
 -- a decimal below 2^32 that counts from 1, as the number that counts from 0

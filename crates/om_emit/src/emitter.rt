@@ -51,7 +51,7 @@ pub fn emit(
     Ok(Verified::of(code))
 }
 
-/// The code of a graph whose nodes are made of earlier ones.
+// The code of a graph whose nodes are made of earlier ones.
 fn code_of(alloc: Global, model: &Model, process: &Process, graph: &Graph) -> Result<Code, NoMemory>
     requires some { 0 < length process.now.legs }
     requires within { length process.now.legs ≤ 12 }
@@ -82,7 +82,7 @@ fn code_of(alloc: Global, model: &Model, process: &Process, graph: &Graph) -> Re
     })
 }
 
-/// The field of each leg.
+// The field of each leg.
 fn fields_of(alloc: Global, process: &Process) -> Result<List<u16>, NoMemory>
     ensures { IfOk result (λ fields. fields ≡ map (λ leg. leg.field) process.now.legs) }
 {

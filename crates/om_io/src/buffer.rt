@@ -14,7 +14,8 @@ pub const ROOM_BYTES: usize = 160;
 ///
 /// # Errors
 ///
-/// `Failed` only where the sink's count of faults rose. A prefix of what the buffer held, perhaps empty, was then appended to the sink.
+/// `Failed` only where the sink's count of faults rose. A prefix of what the buffer held, perhaps
+/// empty, was then appended to the sink.
 pub fn make_room<W: Sink>(to: &mut W, line: &mut Line) -> Result<(), Failed>
     ensures written { Writes (outlet (W.written to.old) (W.faults to.old) line.old) (outlet (W.written to.new) (W.faults to.new) line.new) [] result }
     ensures room { OnOk result (length line.new + ROOM_BYTES ≤ LINE_BYTES) }
@@ -29,7 +30,8 @@ pub fn make_room<W: Sink>(to: &mut W, line: &mut Line) -> Result<(), Failed>
 ///
 /// # Errors
 ///
-/// `Failed` only where the sink's count of faults rose. A prefix of what the buffer held, perhaps empty, was then appended to the sink.
+/// `Failed` only where the sink's count of faults rose. A prefix of what the buffer held, perhaps
+/// empty, was then appended to the sink.
 pub fn flush<W: Sink>(to: &mut W, line: &mut Line) -> Result<(), Failed>
     ensures written { Writes (outlet (W.written to.old) (W.faults to.old) line.old) (outlet (W.written to.new) (W.faults to.new) line.new) [] result }
     ensures empty { OnOk result (line.new ≡ []) }

@@ -4,6 +4,8 @@
 //! of it. Counts of faults are always known. A counter that has reached `2^64 - 1` stands still.
 #![tactic(auto)]
 
+#[cfg(test)]
+mod adapter_tests;
 mod adapters;
 mod buffer;
 mod calls;

@@ -20,8 +20,8 @@ pub trait RowKind {
     ///
     /// # Errors
     ///
-    /// `Failed` only where the sink's count of faults rose. A prefix, perhaps empty, of what the buffer held and the text was then
-    /// appended to the sink.
+    /// `Failed` only where the sink's count of faults rose. A prefix, perhaps empty, of what the
+    /// buffer held and the text was then appended to the sink.
     fn write<W: Sink>(&self, row: &Self::Row, to: &mut W, line: &mut Line) -> Result<(), Failed>
         requires { plain self.now row.now }
         ensures { Writes (outlet (W.written to.old) (W.faults to.old) line.old) (outlet (W.written to.new) (W.faults to.new) line.new) (text self.now row.now) result };
@@ -48,8 +48,8 @@ pub fn write_rows<K: RowKind, W: Sink>(
 ///
 /// # Errors
 ///
-/// `Failed` only where the sink's count of faults rose. A prefix, perhaps empty, of what the buffer held and the texts was then
-/// appended to the sink.
+/// `Failed` only where the sink's count of faults rose. A prefix, perhaps empty, of what the buffer
+/// held and the texts was then appended to the sink.
 pub fn write_each<K: RowKind, W: Sink>(
     kind: &K,
     rows: &[K::Row],

@@ -26,6 +26,10 @@ pub use waves::{Slot, Slots, Wave};
 #[cfg(test)]
 mod edge_tests;
 #[cfg(test)]
+mod test_slots;
+#[cfg(test)]
+mod test_sums;
+#[cfg(test)]
 mod test_waves;
 #[cfg(test)]
 mod tests;

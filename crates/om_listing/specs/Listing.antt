@@ -17,7 +17,8 @@ use Rattle.om_graph.specs.declared.Term.{Term}
 -- how many of each there are
 abbrev pub head_words : Graph → Words
 head_words g =
-    codes "graph" ∷ codes "nodes" ∷ decimal (length g.nodes) ∷ codes "fusions" ∷ decimal (length g.terms)
+    codes "graph" ∷ codes "nodes" ∷ decimal (length g.nodes)
+    ∷ codes "fusions" ∷ decimal (length g.terms)
     ∷ codes "keystones" ∷ decimal (length g.keys) ∷ codes "flows" ∷ decimal (length g.flows) ∷ []
 
 -- the flow that has number j
@@ -26,7 +27,8 @@ flow_words j w = codes "flow" ∷ place_word j ∷ flow_bytes w ∷ []
 
 -- the node that has number j
 abbrev pub node_words : List Particle → ℕ → Key → Words
-node_words particles j k = codes "node" ∷ place_word j ∷ leg_set_word k.legs ∷ field_name particles k.field ∷ partial_bytes k.partial ∷ []
+node_words particles j k =
+    codes "node" ∷ place_word j ∷ leg_set_word k.legs ∷ field_name particles k.field ∷ partial_bytes k.partial ∷ []
 
 abbrev pub fusion_words : Term → Words
 fusion_words x = codes "fusion" ∷ term_words x.node x.minus x.vertex x.choice x.branches

@@ -21,12 +21,13 @@ use om_keystone::Pruned;
 use om_model::Model;
 use om_ring::Line;
 
-/// Appends the listing of a graph, whose fields are those of the model: its flows, its nodes, each with the fusions that make it, and its
-/// keystones. The name of a field that the model hasn't is empty. It takes no memory.
+/// Appends the listing of a graph of the model: its flows, its nodes, each with the fusions that
+/// make it, and its keystones. A field that the model hasn't has the empty name. It takes no memory.
 ///
 /// # Errors
 ///
-/// `Failed` only where the sink's count of faults rose. A prefix of the listing, perhaps empty, was then appended.
+/// `Failed` only where the sink's count of faults rose. A prefix of the listing, perhaps empty, was
+/// then appended.
 pub fn write_listing<W: Sink>(model: &Model, pruned: &Pruned, to: &mut W) -> Result<(), Failed>
     ensures ok { OnOk result (W.written to.new ≡ after_told (W.written to.old) (listing model.now pruned.now)) }
     ensures err { OnErr result (AppendsPrefix (W.written to.old) (W.written to.new) (listing model.now pruned.now)) }

@@ -17,8 +17,8 @@ use om_io::{Failed, Sink, make_room, write_each};
 use om_model::{Particle, field_name, push_leg_set};
 use om_ring::Line;
 
-/// Writes a line for each node, and behind it one for each fusion that makes it. The terms stand in order of the nodes that they
-/// make.
+/// Writes a line for each node, and behind it one for each fusion that makes it. The terms stand in
+/// order of the nodes that they make.
 pub(crate) fn write_nodes<W: Sink>(
     particles: &[Particle],
     nodes: &[Key],

@@ -16,7 +16,8 @@ branch_words b = map place_word (take b.count b.nodes)
 
 -- the choice counts from 0 in a text too
 abbrev pub term_words : ℕ → Bool → ℕ → ℕ → Branches → List (List ℕ)
-term_words made minus vertex choice branches = place_word made ∷ sign_word minus ∷ place_word vertex ∷ decimal choice ∷ branch_words branches
+term_words made minus vertex choice branches =
+    place_word made ∷ sign_word minus ∷ place_word vertex ∷ decimal choice ∷ branch_words branches
 
 -- each word behind a space
 abbrev pub spaced : List (List ℕ) → List ℕ

@@ -11,9 +11,9 @@ use om_ring::Line;
 /// The most bytes of the words of a term.
 pub const TERM_BYTES: usize = 148;
 
-/// Appends the words of a term with single spaces between: the number of what it makes, its sign, the number of its vertex, its
-/// choice, and the numbers of the nodes that meet there. Numbers count from 0 here and from 1 in the text, but for the
-/// choice, which counts from 0 in both.
+/// Appends the words of a term with single spaces between: the number of what it makes, its sign,
+/// the number of its vertex, its choice, and the numbers of the nodes that meet there. Numbers count
+/// from 0 here and from 1 in the text, but for the choice, which counts from 0 in both.
 pub fn push_term(
     made: u32,
     minus: bool,

@@ -2,7 +2,7 @@ use Rattle.std.proofs.Common.{sym, ◌∙◌, ap}
 use Rattle.om_ring.specs.Ops.{Ops, Laws, laws_from}
 use Rattle.om_lorentz.specs.Matrices.{gamma}
 use Rattle.om_lorentz.proofs.Chiral.{product-chiral}
-use Rattle.om_lorentz.proofs.entries.fermions_vector.Goals as goal
+use Rattle.om_lorentz.proofs.entries.fermions.fermions_vector.Goals as goal
 
 pub returns-clause-value : goal.returns-clause-value
 returns-clause-value g c =

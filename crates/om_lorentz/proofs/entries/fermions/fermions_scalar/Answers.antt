@@ -1,7 +1,7 @@
 use Rattle.std.proofs.Common.{sym, ◌∙◌}
 use Rattle.om_ring.specs.Ops.{Ops, Laws, laws_from}
 use Rattle.om_lorentz.proofs.Chiral.{chiral-off}
-use Rattle.om_lorentz.proofs.entries.fermions_scalar.Goals as goal
+use Rattle.om_lorentz.proofs.entries.fermions.fermions_scalar.Goals as goal
 
 pub returns-else-row-column-clause-value : goal.returns-else-row-column-clause-value
 returns-else-row-column-clause-value g c =

@@ -1,7 +1,7 @@
 use Rattle.std.proofs.Common.{sym, ◌∙◌}
 use Rattle.om_ring.specs.Ops.{Ops, Laws, laws_from}
 use Rattle.om_lorentz.proofs.Chiral.{chiral-left, chiral-right}
-use Rattle.om_lorentz.proofs.entries.chiral.Goals as goal
+use Rattle.om_lorentz.proofs.entries.fermions.chiral.Goals as goal
 
 pub returns-then-column-lt2-clause-value : goal.returns-then-column-lt2-clause-value
 returns-then-column-lt2-clause-value g c =

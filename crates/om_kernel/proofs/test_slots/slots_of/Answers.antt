@@ -5,7 +5,7 @@ use Rattle.om_kernel.specs.declared.waves.Slots.{Slots}
 use Rattle.om_kernel.specs.IndexSums.{Fits, FitsAll, FitsBeside, slot_kind, wave_at}
 use Rattle.om_kernel.specs.Waves.{held_kind}
 use Rattle.om_kernel.proofs.SlotOrders.{four_slots}
-use Rattle.om_kernel.proofs.tests.slots_of.Goals as goal
+use Rattle.om_kernel.proofs.test_slots.slots_of.Goals as goal
 
 module _ {E : Type 0} (s : Structure) (hole : ℕ) where
   -- a slot beside the hole holds a wave of its kind
