@@ -5,3 +5,5 @@ pub mod ProgramLines
 pub mod CallBounds
 pub mod Values
 pub mod SampleWords
+pub mod Streams
+pub mod CodeAnswers

@@ -32,9 +32,18 @@ line_count_is c =
     let dens = flows ++ map (den_words ps) c.dens in
     let slots = dens ++ slots_lines c.version c.slots in
     let instrs = slots ++ map (instr_words c.version) c.instrs in
-    omega (arith, length-map ps particle_words, group (vertex_words ps) particles c.model.vertices, group (leg_words ps) vertices c.legs, group flow_words legs c.flows,
-    group (den_words ps) flows c.dens, length-append dens (slots_lines c.version c.slots), slots_long (nat_eq c.version 1) (codes "slots" ∷ decimal c.slots ∷ []),
-    group (instr_words c.version) slots c.instrs, length-append instrs (end_words ∷ []))
+    omega (
+      arith,
+      length-map ps particle_words,
+      group (vertex_words ps) particles c.model.vertices,
+      group (leg_words ps) vertices c.legs,
+      group flow_words legs c.flows,
+      group (den_words ps) flows c.dens,
+      length-append dens (slots_lines c.version c.slots),
+      slots_long (nat_eq c.version 1) (codes "slots" ∷ decimal c.slots ∷ []),
+      group (instr_words c.version) slots c.instrs,
+      length-append instrs (end_words ∷ []),
+    )
 
 pub few_lines : (c : Code) (text : List ℕ) → text ≡ program_text c → line_count c ≤ length text
 few_lines c text e = omega (arith, line_count_is c, lines_long (program_lines c), ap length e)

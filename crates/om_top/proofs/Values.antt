@@ -81,3 +81,7 @@ module _ {E : Type 0} (show : E → List ℕ) (m : Model) (e : ℕ) (items flows
     line_breaks before faults b c p q =
         rw (sym (values_text show m e rows)) at (prefix_written (outlet before faults []) c (flat_map (pair_line show e) rows) refl
         (row_breaks (pair_line show e) rows (outlet before faults []) b c k (w.ends, x) (w.ends, x) here.within (sym (here.pair (w.ends, x))) p (rw is at q)))
+
+-- an answer with one line
+pub one_text : (e : ℕ) (line text : List ℕ) → line ≡ answer_line e text → line ≡ flat_map (answer_line e) (text ∷ [])
+one_text e line text h = h ∙ sym (append-nil (answer_line e text))

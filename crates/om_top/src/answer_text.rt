@@ -35,16 +35,19 @@ pub(crate) fn write_answer<R: Ring, O: Sink>(
         OnErr result (AppendsPrefix (O.written out.old) (O.written out.new) (answer_text (R.text ring.now) m.code.model number (answer_with m.code.flows (answer_of outcome m.sums)))) }
     ensures cause { HasCause (O.faults out.old) (O.faults out.new) result }
 {
-    let mut line = Line::new();
     match outcome {
-        Outcome::Values => return write_values(ring, machine, number, out),
-        Outcome::Pole { legs, field } => push_pole(machine.code(), number, legs, field, &mut line),
+        Outcome::Values => write_values(ring, machine, number, out),
+        Outcome::Pole { legs, field } => {
+            let mut line = Line::new();
+            push_pole(machine.code(), number, legs, field, &mut line);
+            write_all(out, line.bytes())
+        }
         Outcome::Unbalanced => {
-            push_start(number, &mut line);
-            line.push(b"unbalanced\n");
+            let mut line = Line::new();
+            push_unbalanced(number, &mut line);
+            write_all(out, line.bytes())
         }
     }
-    write_all(out, line.bytes())
 }
 
 /// Writes a line for each flow.
@@ -93,6 +96,15 @@ fn push_pole(code: &Code, number: u32, legs: LegSet, field: u16, line: &mut Line
     line.push(b" ");
     line.push(field_name(code.model.particles.as_slice(), field));
     line.push(b"\n");
+}
+
+/// Appends the line of an event whose momenta don't add up to zero.
+fn push_unbalanced(number: u32, line: &mut Line)
+    requires { line.old ≡ [] }
+    ensures { line.new ≡ answer_line number (codes "unbalanced") }
+{
+    push_start(number, line);
+    line.push(b"unbalanced\n");
 }
 
 /// Appends the number of an event and a space.

@@ -56,13 +56,13 @@ fn stream<R: Ring<Mark = L>, S: Source, O: Sink, L>(
     ensures calls { (n : ℕ) × EventsMayCall (R.ops ring.now) machine.old.code (side S.left S.faults input.old input.new) n × (steps.new ≤ steps.old + n * R.cost ring.now) }
 {
     let mut reader = Reader::new(machine.code());
-    for number in 1..=MOST_EVENTS {
+    for number in 0..MOST_EVENTS {
         let next = reader.next(ring, input, event, steps);
         if let Some(ending) = ending_of(next) {
             return ending;
         }
         let outcome = machine.evaluate(ring, event, steps);
-        if let Err(Failed) = write_answer(ring, machine, number, outcome, out) {
+        if let Err(Failed) = write_answer(ring, machine, number + 1, outcome, out) {
             return Ending::OutFault;
         }
     }

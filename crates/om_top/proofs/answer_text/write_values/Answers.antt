@@ -15,7 +15,7 @@ returns-in_err-write_all-clause-err g c =
     let m = c.args.machine.now in
     let p = err_from_is_err_and c.from_residual.result c.from_residual.ensures.1 in
     let e = c.in_err-write_all.ensures in
-    rw p.1 (line_breaks (g.R.Ring.text c.args.ring.now) m.code.model c.args.number c.as_slice-flow-items.result.now m.code.flows m.sums (same_flows c.as_slice-flow-items.result.now c.code.result.now m.code c.as_slice-flow-items.ensures c.code.ensures.code) c.loop-k.k c.value.result c.loop-k-test.true c.value.ensures (record {ends = []}) c.bytes.result.now (c.bytes.ensures.value ∙ c.push_value.ensures)
+    rw p.1 (line_breaks (g.R.Ring.text c.args.ring.now) m.code.model c.args.number c.as_slice-flow-items.result.now m.code.flows m.sums (same_flows c.as_slice-flow-items.result.now c.code.result.now m.code c.as_slice-flow-items.ensures c.code.ensures.code) c.loop-k.k c.value.result c.loop-k-test.true c.value.ensures (record { ends = [] }) c.bytes.result.now (c.bytes.ensures.value ∙ c.push_value.ensures)
     (written c.args.out.now) (faults c.args.out.now) (outlet (written c.loop-k.out) (faults c.loop-k.out) []) (outlet (written c.write_all.new.to) (faults c.write_all.new.to) []) c.loop-k.invariant
     (broke (written c.loop-k.out) (written c.write_all.new.to) (faults c.loop-k.out) (faults c.write_all.new.to) c.bytes.result.now e.err e.cause.later e.cause.failed))
 
@@ -25,7 +25,7 @@ loop-k-preserved g c =
     let faults = g.O.Sink.faults in
     let m = c.args.machine.now in
     let e = c.in_ok-write_all.ensures in
-    line_more (g.R.Ring.text c.args.ring.now) m.code.model c.args.number c.as_slice-flow-items.result.now m.code.flows m.sums (same_flows c.as_slice-flow-items.result.now c.code.result.now m.code c.as_slice-flow-items.ensures c.code.ensures.code) c.loop-k.k c.value.result c.loop-k-test.true c.value.ensures (record {ends = []}) c.bytes.result.now (c.bytes.ensures.value ∙ c.push_value.ensures)
+    line_more (g.R.Ring.text c.args.ring.now) m.code.model c.args.number c.as_slice-flow-items.result.now m.code.flows m.sums (same_flows c.as_slice-flow-items.result.now c.code.result.now m.code c.as_slice-flow-items.ensures c.code.ensures.code) c.loop-k.k c.value.result c.loop-k-test.true c.value.ensures (record { ends = [] }) c.bytes.result.now (c.bytes.ensures.value ∙ c.push_value.ensures)
     (outlet (written c.args.out.now) (faults c.args.out.now) []) (outlet (written c.loop-k.out) (faults c.loop-k.out) []) (outlet (written c.write_all.new.to) (faults c.write_all.new.to) []) c.loop-k.invariant
     (wrote (written c.loop-k.out) (written c.write_all.new.to) (faults c.loop-k.out) (faults c.write_all.new.to) c.bytes.result.now e.ok e.cause.later)
 

@@ -1,0 +1,3 @@
+use Rattle.om_top.proofs.Streams.{starts}
+use Rattle.om_top.proofs.CodeAnswers.{owed}
+use Rattle.om_top.proofs.stream.stream.Goals as goal
