@@ -1,5 +1,6 @@
 -- The code of the process of a sample gives what the diagrams give.
 use Rattle.std.proofs.Common.{◌≡◌, ℕ, ◌+◌, ◌*◌, ◌<◌, ◌≤◌, ◌^◌, List, [], ◌∷◌, length, map, Option, Some, None, refl, ap, sym, ◌∙◌, arith, subst}
+use Rattle.std.proofs.Math.Nat.{mul-le-mul_right}
 use Rattle.om_ring.specs.Ops.{Ops, Laws}
 use Rattle.om_ring.specs.Sums.{sum_list, sum_over}
 use Rattle.om_colour.specs.declared.Flow.{Flow}
@@ -42,6 +43,14 @@ use Rattle.om_sample.proofs.OneFlow.{one_flow}
 use Rattle.om_sample.proofs.Process.{code_legs, code_scalars, process_fits}
 use Rattle.om_top.specs.Cost.{IsSampleCode}
 
+-- the calls of a sample, whose code has one flow at most
+pub calls_within : (old a b loading p legs flows cost : ℕ) → flows ≤ 1 → 1 ≤ legs → a ≤ old + loading * cost → b ≤ a + SAMPLE_EVENTS * ((p + 4 * legs + flows + 1) * cost)
+    → b ≤ old + (loading + SAMPLE_EVENTS * (p + 8 * legs)) * cost
+calls_within old a b loading p legs flows cost few some ha hb =
+    let f : flows * cost ≤ 1 * cost = mul-le-mul_right cost few in
+    let g : 1 * cost ≤ legs * cost = mul-le-mul_right cost some in
+    omega (arith, ha, hb, f, g)
+
 -- the sum over the flows, by their sums alone
 sum_of_flows : {E : Type 0} (o : Ops E) (flows : List Flow) (vs : List E) → length vs ≡ length flows → sum_list o vs ≡ sum_over o (with_sums flows vs) (λ v. v.1)
 sum_of_flows o [] [] e = refl
@@ -56,6 +65,9 @@ module _ {E : Type 0} (o : Ops E) (l : Laws o) where
   module _ (legs : ℕ) (least : FEWEST_LEGS ≤ legs) (most : legs ≤ MOST_LEGS) (c : Code) (is : IsSampleCode legs c) where
     pub has_legs : length c.legs ≡ legs
     has_legs = code_legs c legs (omega (arith, least)) is.is_code.legs
+
+    pub has_some_legs : 1 ≤ length c.legs
+    has_some_legs = omega (arith, has_legs, least)
 
     pub has_scalar_legs : HasScalarLegs c
     has_scalar_legs = code_scalars c legs (omega (arith, least)) is.is_code.same_model is.is_code.legs
