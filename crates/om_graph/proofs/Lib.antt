@@ -50,3 +50,4 @@ pub mod SetStep
 pub mod KeyStep
 pub mod WholeGraph
 pub mod OnePossible
+pub mod Valences

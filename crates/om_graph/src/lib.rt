@@ -24,6 +24,7 @@ mod slots;
 mod terms;
 #[cfg(test)]
 mod tests;
+mod valence;
 mod walk;
 
 use om_colour::{Flow, Partial};

@@ -14,6 +14,7 @@ use crate::closings::{Closed, add_tuples};
 use crate::fields::Meetings;
 use crate::nodes::Nodes;
 use crate::reaction::{Reaction, is_outward};
+use crate::valence::has_valence;
 use om_legs::{FourParts, LegSet, ThreeParts, partitions3, partitions4};
 use std::alloc::Global;
 
@@ -77,6 +78,9 @@ fn add_fours(
     ensures cached { OnOk result (AreMeetings (reaction_in reaction.now) true meetings.new) }
     ensures added { Adds limit (map closed_seen found.old.items) (flat_map (met_partition (reaction_in reaction.now) (meet_closed (reaction_in reaction.now)) nodes.now) splits) (map closed_seen found.new.items) result }
 {
+    if !has_valence(reaction, 4) {
+        return Ok(());
+    }
     for parts in splits {
         if let Err(fault) = add_partition(alloc, reaction, nodes, meetings, limit, &parts, found) {
             return Err(fault);

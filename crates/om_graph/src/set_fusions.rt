@@ -12,6 +12,7 @@ use crate::fields::Meetings;
 use crate::fusions::{Fused, add_tuples};
 use crate::nodes::Nodes;
 use crate::reaction::Reaction;
+use crate::valence::has_valence;
 use om_legs::{LegSet, ThreeParts, TwoParts, splits2, splits3};
 use std::alloc::Global;
 
@@ -83,6 +84,9 @@ fn add_triples(
     ensures cached { OnOk result (AreMeetings (reaction_in reaction.now) false meetings.new) }
     ensures added { Adds limit (map fused_seen found.old.items) (flat_map (met_parts (reaction_in reaction.now) (meet_fused (reaction_in reaction.now)) nodes.now rest) splits) (map fused_seen found.new.items) result }
 {
+    if !has_valence(reaction, 4) {
+        return Ok(());
+    }
     for parts in splits {
         if let Err(fault) = add_split(
             alloc, reaction, nodes, meetings, limit, &parts, rest, found,
