@@ -51,3 +51,4 @@ pub mod KeyStep
 pub mod WholeGraph
 pub mod OnePossible
 pub mod Valences
+pub mod FirstLegs

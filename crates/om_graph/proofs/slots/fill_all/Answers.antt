@@ -6,11 +6,11 @@ use Rattle.om_graph.proofs.slots.fill_all.Goals as goal
 
 pub returns-clause-keys : goal.returns-clause-keys
 returns-clause-keys c =
-    c.slots_of.ensures.keys
-    ∙ ap four_slots (filled_all (reaction_in c.args.reaction.now) c.args.vertex c.args.keys.now c.size.result c.all.result.now c.all-2.result.now c.slots.result.now c.size.ensures.size (c.all.ensures ∙ c.sorted-parts.ensures.parts) c.slots.ensures (c.all-2.ensures ∙ c.fill-filled.ensures.parts))
+    c.keys_at.ensures
+    ∙ ap four_slots (filled_all (reaction_in c.args.reaction.now) c.args.vertex c.args.keys.now c.size.result c.sorted-parts.result c.all.result.now c.slots.result.now c.size.ensures.size c.sorted-parts.ensures.parts c.slots.ensures (c.all.ensures.items ∙ c.fill-filled.ensures.parts))
 
 pub returns-clause-few : goal.returns-clause-few
 returns-clause-few c =
-    few_keys c.all-2.result.now (closed_slots (reaction_in c.args.reaction.now) c.args.vertex c.args.keys.now)
-    (filled_all (reaction_in c.args.reaction.now) c.args.vertex c.args.keys.now c.size.result c.all.result.now c.all-2.result.now c.slots.result.now c.size.ensures.size (c.all.ensures ∙ c.sorted-parts.ensures.parts) c.slots.ensures (c.all-2.ensures ∙ c.fill-filled.ensures.parts))
-    (omega (arith, ap length c.all-2.ensures, ap length c.all.ensures, c.fill-filled.ensures.count, c.sorted-parts.ensures.count, c.requires.few))
+    few_keys c.args.keys.now c.all.result.now (closed_slots (reaction_in c.args.reaction.now) c.args.vertex c.args.keys.now)
+    (filled_all (reaction_in c.args.reaction.now) c.args.vertex c.args.keys.now c.size.result c.sorted-parts.result c.all.result.now c.slots.result.now c.size.ensures.size c.sorted-parts.ensures.parts c.slots.ensures (c.all.ensures.items ∙ c.fill-filled.ensures.parts))
+    c.all.ensures.few
