@@ -8,9 +8,11 @@ use Rattle.om_model.specs.Slots.{first_with as first_edge, without_first as with
 use Rattle.om_model.proofs.Filling.{carry, in_slots-map}
 use Rattle.om_graph.specs.declared.Key.{Key}
 use Rattle.om_graph.specs.declared.parts.Part.{Part}
-use Rattle.om_graph.specs.Fillings.{first_with, without_first, filled, known_part, branch_parts, key_at, key_numbered}
+use Rattle.om_graph.specs.declared.fields.Meeting.{Meeting}
+use Rattle.om_graph.specs.declared.parts.Side.{Side}
+use Rattle.om_graph.specs.Fillings.{first_with, without_first, filled, known_part, branch_parts, entering, filled_at, key_at, key_numbered, sides_of, upward_part}
 use Rattle.om_graph.specs.Loops.{one_or_none}
-use Rattle.om_graph.specs.Vertices.{Reaction, branch, upward, slots_of, fused_slots, closed_slots}
+use Rattle.om_graph.specs.Vertices.{Reaction, branch, upward, slots_of, fused_slots, closed_slots, sets_of, union_of}
 
 -- a part that was found is left out
 pub taken : (f : ℕ) (ps : List Part) (p : Part) → first_with f ps ≡ Some p → length (without_first f ps) + 1 ≡ length ps
@@ -72,17 +74,13 @@ module _ (n : ℕ) where
   known_keys ks [] = refl
   known_keys ks (q ∷ qs) = ap (λ os. key_numbered ks q.1 ∷ os) (known_keys ks qs)
 
--- as many keys stand at the slots as parts
-pub few_keys : (ks : List Key) (parts : List Part) (slots : List (Option Key)) → map (key_at ks) parts ≡ slots → length parts ≤ 4 → length slots ≤ 4
-few_keys ks parts slots e l = let m = length-map parts (key_at ks) in let n = ap length e in omega (arith, l, m, n)
-
 module _ (r : Reaction) where
   -- the edges of branches, numbered from i on
   numbered_edges : ℕ → List Key → List (Edge × Option ℕ)
   numbered_edges i [] = []
   numbered_edges i (k ∷ ks) = ((branch r k).0, Some i) ∷ numbered_edges (i + 1) ks
 
-  known_branches : (i : ℕ) (ks : List Key) → map (known_part r.scattering.size) (numbered_edges i ks) ≡ branch_parts r.scattering.size i ks
+  known_branches : (i : ℕ) (ks : List Key) → map (known_part r.scattering.size) (numbered_edges i ks) ≡ branch_parts r.scattering.size i (sides_of ks)
   unfolding least branch_parts numbered_edges
   known_branches i [] = refl
   known_branches i (k ∷ ks) = ap (λ ps. record { field = k.field; least = first_from (holds k.legs) 1 r.scattering.size; branch = Some i } ∷ ps) (known_branches (i + 1) ks)
@@ -114,39 +112,28 @@ module _ (r : Reaction) where
       (map_fill r.scattering.size (r.scattering.theory.slots v) (sort (λ (q : Edge × Option ℕ). least r.scattering.size q.0) qs)
       ∙ ap (filled (r.scattering.theory.slots v)) (map_sort (known_part r.scattering.size) (λ (p : Part). p.least) qs))
 
-  abbrev up_part : ℕ → ℕ → Part
-  up_part a l = record { field = a; least = l; branch = None }
+  -- the keys of the parts that fill a vertex are what stands at its slots
+  pub closed_filled : (m : Meeting) (ks : List Key) → map (key_at ks) (filled_at r true m (sides_of ks)) ≡ closed_slots r m.vertex ks
+  unfolding closed_slots filled_at
+  closed_filled m ks =
+      sym (ap (slots_of r m.vertex) (sym (edges_back ks))
+      ∙ known_slots m.vertex ks (numbered_edges 0 ks)
+      ∙ ap (λ ps. map (key_at ks) (filled (r.scattering.theory.slots m.vertex) (sort (λ (p : Part). p.least) ps))) (known_branches 0 ks))
 
-  around : (f v legs : ℕ) (ks : List Key) → fused_slots r f v legs ks ≡ map (key_at ks) (filled (r.scattering.theory.slots v) (put (λ (p : Part). p.least) (up_part (r.scattering.theory.anti f) (first_from (others r.scattering.size (holds legs)) 1 r.scattering.size)) (sort (λ (p : Part). p.least) (branch_parts r.scattering.size 0 ks))))
-  unfolding fused_slots sort least
-  around f v legs ks =
-      ap (λ (qs : List (Edge × Option Key)). slots_of r v (upward r f legs ∷ qs)) (sym (edges_back ks))
-      ∙ known_slots v ks (((upward r f legs).0, None) ∷ numbered_edges 0 ks)
-      ∙ ap (λ ps. map (key_at ks) (filled (r.scattering.theory.slots v) (put (λ (p : Part). p.least) (up_part (r.scattering.theory.anti f) (first_from (others r.scattering.size (holds legs)) 1 r.scattering.size)) (sort (λ (p : Part). p.least) ps)))) (known_branches 0 ks)
+  legs_of_sides : (ks : List Key) → map (λ (s : Side). s.legs) (sides_of ks) ≡ sets_of ks
+  legs_of_sides [] = refl
+  legs_of_sides (k ∷ ks) = ap (λ ss. k.legs ∷ ss) (legs_of_sides ks)
 
-  all_around : (v : ℕ) (ks : List Key) → closed_slots r v ks ≡ map (key_at ks) (filled (r.scattering.theory.slots v) (sort (λ (p : Part). p.least) (branch_parts r.scattering.size 0 ks)))
-  unfolding closed_slots
-  all_around v ks =
-      ap (slots_of r v) (sym (edges_back ks))
-      ∙ known_slots v ks (numbered_edges 0 ks)
-      ∙ ap (λ ps. map (key_at ks) (filled (r.scattering.theory.slots v) (sort (λ (p : Part). p.least) ps))) (known_branches 0 ks)
+  around : (f legs : ℕ) (m : Meeting) (ks : List Key) → legs ≡ union_of (map (λ (s : Side). s.legs) (sides_of ks))
+      → map (key_at ks) (filled (r.scattering.theory.slots m.vertex) (entering r false (Some f) (sides_of ks))) ≡ fused_slots r f m.vertex legs ks
+  unfolding fused_slots sort least upward_part
+  around f legs m ks e =
+      sym (ap (λ (qs : List (Edge × Option Key)). slots_of r m.vertex (upward r f legs ∷ qs)) (sym (edges_back ks))
+      ∙ known_slots m.vertex ks (((upward r f legs).0, None) ∷ numbered_edges 0 ks)
+      ∙ ap₂ (λ (l : ℕ) ps. map (key_at ks) (filled (r.scattering.theory.slots m.vertex) (put (λ (p : Part). p.least) (record { field = r.scattering.theory.anti f; least = first_from (others r.scattering.size (holds l)) 1 r.scattering.size; branch = None }) (sort (λ (p : Part). p.least) ps)))) e (known_branches 0 ks))
 
-  -- what the code puts together, step by step
-  pub filled_around : (f v legs : ℕ) (ks : List Key) (n a l : ℕ) (branches parts all : List Part) (slots : List ℕ) → n ≡ r.scattering.size → a ≡ r.scattering.theory.anti f → l ≡ first_from (others n (holds legs)) 1 n
-      → branches ≡ sort (λ (p : Part). p.least) (branch_parts n 0 ks) → parts ≡ put (λ (p : Part). p.least) (record { field = a; least = l; branch = None }) branches → slots ≡ r.scattering.theory.slots v → all ≡ filled slots parts
-      → map (key_at ks) all ≡ fused_slots r f v legs ks
-  filled_around f v legs ks n a l branches parts all slots en ea el eb ep es e =
-      ap (map (key_at ks))
-      (e ∙ ap (λ ss. filled ss parts) es
-      ∙ ap (filled (r.scattering.theory.slots v))
-      (ep
-      ∙ ap (λ x. put (λ (p : Part). p.least) (up_part x l) branches) ea
-      ∙ ap (λ x. put (λ (p : Part). p.least) (up_part (r.scattering.theory.anti f) x) branches) (el ∙ ap (λ m. first_from (others m (holds legs)) 1 m) en)
-      ∙ ap (put (λ (p : Part). p.least) (up_part (r.scattering.theory.anti f) (first_from (others r.scattering.size (holds legs)) 1 r.scattering.size))) (eb ∙ ap (λ m. sort (λ (p : Part). p.least) (branch_parts m 0 ks)) en)))
-      ∙ sym (around f v legs ks)
-
-  pub filled_all : (v : ℕ) (ks : List Key) (n : ℕ) (parts all : List Part) (slots : List ℕ) → n ≡ r.scattering.size → parts ≡ sort (λ (p : Part). p.least) (branch_parts n 0 ks) → slots ≡ r.scattering.theory.slots v → all ≡ filled slots parts
-      → map (key_at ks) all ≡ closed_slots r v ks
-  filled_all v ks n parts all slots en ep es e =
-      ap (map (key_at ks)) (e ∙ ap (λ ss. filled ss parts) es ∙ ap (filled (r.scattering.theory.slots v)) (ep ∙ ap (λ m. sort (λ (p : Part). p.least) (branch_parts m 0 ks)) en))
-      ∙ sym (all_around v ks)
+  pub fused_filled : (f legs : ℕ) (m : Meeting) (ks : List Key) → m.up ≡ Some f → legs ≡ union_of (sets_of ks) → map (key_at ks) (filled_at r false m (sides_of ks)) ≡ fused_slots r f m.vertex legs ks
+  unfolding filled_at
+  fused_filled f legs m ks u e =
+      ap (λ (o : Option ℕ). map (key_at ks) (filled (r.scattering.theory.slots m.vertex) (entering r false o (sides_of ks)))) u
+      ∙ around f legs m ks (e ∙ ap union_of (sym (legs_of_sides ks)))

@@ -52,3 +52,4 @@ pub mod WholeGraph
 pub mod OnePossible
 pub mod Valences
 pub mod FirstLegs
+pub mod KeptFillings

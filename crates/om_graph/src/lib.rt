@@ -10,6 +10,7 @@
 mod chosen;
 mod closings;
 mod fields;
+mod fillings;
 mod fusions;
 mod key_terms;
 pub mod laws;

@@ -20,13 +20,12 @@ use om_ring::NoMemory;
 use std::alloc::Global;
 use std::marker::Model;
 
-/// Seen as the model and the process.
+/// Seen as the model and the process. `rows` are the rows of the colour table that the vertices have.
 #[derive(Drop)]
 pub(crate) struct Reaction<'a> {
     model: &'a om_model::Model,
     process: &'a Process,
     fermions: LegSet,
-    // the row of the colour table of each vertex
     rows: Vec<ColourRow>,
 }
 
