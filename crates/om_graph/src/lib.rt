@@ -9,6 +9,7 @@
 
 mod chosen;
 mod closings;
+mod edges;
 mod fields;
 mod fillings;
 mod fusions;
