@@ -1,6 +1,5 @@
 -- The filling of slots keeps what is known of each part.
-use Rattle.std.proofs.Common.{◌≡◌, ℕ, suc, ◌+◌, ◌≤◌, List, [], ◌∷◌, ◌++◌, map, length, Bool, true, false, cond, eqb, ltb, refl, ap, ap₂, sym, ◌∙◌, arith, Option, Some, None, slice_get}
-use Rattle.std.proofs.lemmas.List.{length-map}
+use Rattle.std.proofs.Common.{◌≡◌, ℕ, suc, ◌+◌, List, [], ◌∷◌, ◌++◌, map, length, Bool, true, false, cond, eqb, ltb, refl, ap, ap₂, sym, ◌∙◌, arith, Option, Some, None, slice_get}
 use Rattle.std.proofs.lemmas.Option.{none-some}
 use Rattle.om_legs.specs.Legs.{holds}
 use Rattle.om_model.specs.Parts.{Part as Edge, first_from, least, others, put, sort}

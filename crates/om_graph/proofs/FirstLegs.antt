@@ -1,12 +1,12 @@
 -- The least leg of a set among so many.
-use Rattle.std.proofs.Common.{◌≡◌, ℕ, zero, suc, ◌+◌, ◌<◌, ◌≤◌, Bool, true, false, cond, not, ◌&&◌, ltb, leb, nat_lt, nat_eq, if◌then◌else◌, refl, ap, ap₂, sym, subst, ◌∙◌, arith, true≢false, ⊎_elim}
+use Rattle.std.proofs.Common.{◌≡◌, ℕ, zero, suc, ◌+◌, ◌<◌, ◌≤◌, Bool, true, false, cond, not, ◌&&◌, leb, refl, ap, ap₂, sym, ◌∙◌, arith, true≢false, ⊎_elim}
 use Rattle.std.proofs.lemmas.Bool.{lt-ltb, cases_Bool, cases_eq, cases_lt}
 use Rattle.om_legs.specs.Legs.{IsLegSet, complement, holds, least}
 use Rattle.om_legs.proofs.Bits.{holds-zero}
-use Rattle.om_legs.proofs.Least.{holds-least, least_le, least-zero, least-le-12}
+use Rattle.om_legs.proofs.Least.{holds-least, least_le, least-zero}
 use Rattle.om_legs.proofs.LegLists.{holds_none}
 use Rattle.om_legs.proofs.Operations.{holds-complement}
-use Rattle.om_model.specs.Parts.{first_from, others, within}
+use Rattle.om_model.specs.Parts.{first_from, others}
 
 -- it is the one number that the set holds, or the end, and below which the set holds none
 first_from_is : (p : ℕ → Bool) (k m v : ℕ) → k ≤ v → v ≤ k + m → ((j : ℕ) → k ≤ j → j < v → p j ≡ false) → (v < k + m → p v ≡ true) → first_from p k m ≡ v

@@ -1,5 +1,5 @@
 -- The fillings that are kept.
-use Rattle.std.proofs.Common.{◌≡◌, ℕ, ◌<◌, List, [], ◌∷◌, ◌++◌, map, flat_map, length, take, get_or, Bool, true, inl, inr, refl, ap, ap₂, sym, subst, ◌∙◌, arith, Option, Some, None}
+use Rattle.std.proofs.Common.{◌≡◌, ℕ, ◌<◌, List, [], ◌∷◌, ◌++◌, map, flat_map, length, get_or, Bool, refl, ap, ap₂, sym, subst, ◌∙◌, Some, None}
 use Rattle.std.proofs.lemmas.Option.{none-some, same_Some}
 use Rattle.om_ring.specs.Members.{In}
 use Rattle.om_graph.specs.declared.Key.{Key}

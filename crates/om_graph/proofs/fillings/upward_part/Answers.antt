@@ -3,9 +3,7 @@ use Rattle.om_legs.specs.Legs.{holds}
 use Rattle.om_model.specs.Model.{anti_field}
 use Rattle.om_model.specs.Parts.{first_from, others}
 use Rattle.om_graph.specs.declared.parts.Part.{Part}
-use Rattle.om_graph.specs.declared.parts.Side.{Side}
 use Rattle.om_graph.specs.Fillings.{upward_part}
-use Rattle.om_graph.specs.Vertices.{union_of}
 use Rattle.om_graph.proofs.FirstLegs.{first_of_others}
 use Rattle.om_graph.proofs.fillings.upward_part.Goals as goal
 

@@ -1,4 +1,4 @@
-use Rattle.std.proofs.Common.{◌≡◌, map, ap, refl, ◌∙◌, Some}
+use Rattle.std.proofs.Common.{map, ap, refl, ◌∙◌, Some}
 use Rattle.om_graph.specs.Fillings.{filling_at, listed_sides}
 use Rattle.om_graph.specs.Reactions.{reaction_in}
 use Rattle.om_graph.proofs.KeptFillings.{found_at, now_last, vertices_at}
