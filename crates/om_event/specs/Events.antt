@@ -16,6 +16,10 @@ pub data Ending : Type 0 where
   -- a byte follows the last event that is read
   too_many : Ending
 
+-- an event by its legs
+abbrev pub Legs : Type 0 → Type 0
+Legs E = List (Leg E)
+
 pub record Events (E : Type 0) : Type 0 where
   pub events : List (List (Leg E))
   pub ending : Ending

@@ -10,6 +10,7 @@ use Rattle.om_event.specs.declared.line.Leg.{Leg}
 use Rattle.om_event.specs.declared.reader.Next.{Next}
 use Rattle.om_event.specs.declared.reader.Next.TheVariants as next
 use Rattle.om_event.specs.declared.limits.TheConstants.{MOST_EVENTS, MOST_LINE_BYTES}
+use Rattle.om_event.specs.Events.{Legs}
 use Rattle.om_event.specs.Fronts.{line_len, front_of, whole, bad_line, begun}
 use Rattle.om_code.specs.Waves.{Incoming}
 
@@ -45,6 +46,10 @@ Stays old new _ = new.live ≡ false
 pub record Enters {E : Type 0} (legs : List (Leg E)) (e : Incoming E) : Type 0 where
   pub momenta : e.momenta ≡ map (λ leg. leg.momentum) legs
   pub waves : e.waves ≡ map (λ leg. leg.wave) legs
+
+-- what enters through some legs
+abbrev pub incoming_of : {E : Type 0} → Legs E → Incoming E
+incoming_of legs = record { momenta = map (λ leg. leg.momentum) legs; waves = map (λ leg. leg.wave) legs }
 
 -- after the last event that is read: nothing, or a byte
 abbrev pub GivesEnd : List ℕ → Next → Type 0
