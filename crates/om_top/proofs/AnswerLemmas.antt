@@ -5,7 +5,7 @@ use Rattle.om_ring.specs.Ops.{Ops, Laws}
 use Rattle.om_ring.specs.Sums.{sum_over}
 use Rattle.om_ring.proofs.RingLemmas.{times_left_comm}
 use Rattle.om_ring.proofs.SumLemmas.{sum_over-same, sum_over-map, times-sum_over, sum_over-same_members}
-use Rattle.om_ring.proofs.Members.{of_map}
+use Rattle.om_ring.proofs.Members.{of_map, in_map, in_flat_map}
 use Rattle.om_model.specs.Order.{BeforeAll, Rising, rising_of, insert, numbers_lt}
 use Rattle.om_model.specs.Theory.{Scattering}
 use Rattle.om_model.specs.Tree.{Tree, Branches, legs_all, tree_lt}
@@ -19,7 +19,6 @@ use Rattle.om_model.specs.Propagator.{EdgeName, inner_edges, edge_name, name_lt,
 use Rattle.om_model.specs.Value.{value}
 use Rattle.om_model.specs.Answer.{HasPole, IsAnswer, values_of, value_of_flow}
 use Rattle.om_model.specs.Answer.Answer.{unbalanced, pole, values}
-use Rattle.om_model.proofs.Membership.{in_map, in_flat_map}
 use Rattle.om_model.proofs.Counting.{both, times_in-append, length-upto}
 use Rattle.om_model.proofs.Rising.{rising_of_rising, in_rising_of}
 use Rattle.om_model.proofs.TreeOrder.{tree_order}

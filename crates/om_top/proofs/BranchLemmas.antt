@@ -2,12 +2,11 @@
 use Rattle.std.proofs.Common.{◌≡◌, ℕ, ◌+◌, ◌<◌, ◌≤◌, List, [], ◌∷◌, ◌++◌, map, length, filter, not, Bool, true, false, cond, ◌&&◌, eqb, inl, inr, refl, ap, ap₂, sym, subst, ◌∙◌, arith}
 use Rattle.std.proofs.lemmas.Bool.Decides.{nat_tests}
 use Rattle.om_ring.specs.Members.{In, Different}
-use Rattle.om_ring.proofs.Members.{different_map, of_map}
+use Rattle.om_ring.proofs.Members.{different_map, of_map, in_left, in_either, in_map, in_flat_map}
 use Rattle.om_model.specs.Theory.{Scattering}
 use Rattle.om_model.specs.Tree.{Tree, Branches, legs, legs_all}
 use Rattle.om_model.specs.Tree.Branches.{none, and}
 use Rattle.om_model.specs.Diagram.{times_in, least_of, field_of, fields_of, in_order, fits, fits_all}
-use Rattle.om_model.proofs.Membership.{in_left, in_either, in_map, in_flat_map}
 use Rattle.om_model.proofs.Counting.{both, times_in-append, times_of_in}
 use Rattle.om_top.specs.declared.combinations.Split.{Split}
 use Rattle.om_top.specs.Choices.{stands_in, splits}

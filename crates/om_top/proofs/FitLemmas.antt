@@ -7,7 +7,7 @@ use Rattle.om_model.specs.Tree.{Tree, Branches, legs, legs_all, count}
 use Rattle.om_model.specs.Tree.Tree.{leaf, join}
 use Rattle.om_model.specs.Tree.Branches.{none, and}
 use Rattle.om_model.specs.Diagram.{same_numbers, least_of, fields_of, in_order, fits, fits_all}
-use Rattle.om_model.proofs.Membership.{in_either}
+use Rattle.om_ring.proofs.Members.{in_either}
 use Rattle.om_model.proofs.Counting.{both}
 use Rattle.om_top.specs.TreeLists.{is_few}
 use Rattle.om_top.proofs.Numbers.{least_in, least_le}

@@ -1,7 +1,7 @@
 -- Where members of lists come from, and lists in which no member stands twice.
 use Rattle.std.proofs.Common.{◌≡◌, List, [], ◌∷◌, ◌++◌, flat_map, Bool, true, false, cond, inl, inr, ⊎_elim, refl, sym, subst}
 use Rattle.om_ring.specs.Members.{In, Different}
-use Rattle.om_model.proofs.Membership.{in_either}
+use Rattle.om_ring.proofs.Members.{in_either}
 
 -- where a member of a flat_map comes from
 pub record ComesFrom {A B : Type 0} (f : A → List B) (y : B) (xs : List A) : Type 0 where

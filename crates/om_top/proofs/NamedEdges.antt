@@ -12,7 +12,7 @@ use Rattle.om_model.specs.Diagrams.{any_in, same_test, same_legs, is_side, has_e
 use Rattle.om_model.specs.Parts.{holds, others, within}
 use Rattle.om_model.specs.Event.{members}
 use Rattle.om_model.specs.Propagator.{EdgeName, inner_edges, edge_name}
-use Rattle.om_model.proofs.Membership.{in_filter, in_left, in_right}
+use Rattle.om_ring.proofs.Members.{in_filter, in_left, in_right}
 use Rattle.om_model.proofs.Counting.{in_of_times, times_of_in, in_upto}
 use Rattle.om_top.specs.Choices.{stands_in}
 use Rattle.om_top.specs.NamedEdges.{has_all, parts}

@@ -3,7 +3,7 @@ use Rattle.std.proofs.Common.{◌≡◌, ℕ, zero, suc, ◌+◌, ◌<◌, ◌�
 use Rattle.std.proofs.lemmas.Bool.Decides.{nat_tests}
 use Rattle.om_ring.specs.Members.{In}
 use Rattle.om_model.specs.Diagram.{upto, times_in, all_in, same_numbers, least_of}
-use Rattle.om_model.proofs.Membership.{in_either}
+use Rattle.om_ring.proofs.Members.{in_either}
 use Rattle.om_model.proofs.Counting.{in_of_times, times_of_in, in_upto}
 
 -- each number stands in both lists equally often

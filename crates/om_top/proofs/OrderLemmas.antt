@@ -3,9 +3,8 @@ use Rattle.std.proofs.Common.{◌≡◌, ℕ, zero, suc, ◌<◌, List, [], ◌�
 use Rattle.std.proofs.lemmas.Bool.Decides.{nat_tests}
 use Rattle.std.specs.List.{fold}
 use Rattle.om_ring.specs.Members.{In, Different}
-use Rattle.om_ring.proofs.Members.{different_filter, different_map, of_map}
+use Rattle.om_ring.proofs.Members.{different_filter, different_map, of_map, in_left, in_right, in_either, in_map, in_flat_map, in_filter}
 use Rattle.om_model.specs.Diagram.{times_in, same_numbers}
-use Rattle.om_model.proofs.Membership.{in_left, in_right, in_either, in_map, in_flat_map, in_filter}
 use Rattle.om_model.proofs.Counting.{in_of_times, times_of_in, same_times}
 use Rattle.om_top.specs.Choices.{below, stands_in, with_new, once, words, orders_of}
 use Rattle.om_top.proofs.ListLemmas.{different_append, different_flat_map}

@@ -1,12 +1,11 @@
 -- The trees of the lists have the legs and the field that are asked for, whatever the order of the legs.
 use Rattle.std.proofs.Common.{◌≡◌, ℕ, zero, suc, List, [], ◌∷◌, map, flat_map, length, ◌&&◌, eqb, ltb, inl, inr, ⊎_elim, ap, ◌∙◌, arith}
 use Rattle.om_ring.specs.Members.{In}
-use Rattle.om_ring.proofs.Members.{of_map}
+use Rattle.om_ring.proofs.Members.{of_map, in_either}
 use Rattle.om_model.specs.Theory.{Scattering}
 use Rattle.om_model.specs.Tree.{Tree, Branches, legs, legs_all}
 use Rattle.om_model.specs.Tree.Tree.{leaf, join}
 use Rattle.om_model.specs.Diagram.{times_in}
-use Rattle.om_model.proofs.Membership.{in_either}
 use Rattle.om_model.proofs.Counting.{times_in-append}
 use Rattle.om_top.specs.Choices.{splits}
 use Rattle.om_top.specs.TreeLists.{pairs_of, branches_over, leaves_over, interactions, is_few, joins_with, joins_at, joins_over, trees_over}

@@ -5,7 +5,7 @@ use Rattle.om_ring.specs.Members.{In}
 use Rattle.om_ring.specs.Ops.{Ops}
 use Rattle.om_model.specs.Event.{Event}
 use Rattle.om_model.specs.Propagator.{EdgeName, set_number, name_lt, IsPole}
-use Rattle.om_model.proofs.Membership.{in_left, in_right, in_either}
+use Rattle.om_ring.proofs.Members.{in_left, in_right, in_either}
 use Rattle.om_model.proofs.Rising.{numbers_order}
 use Rattle.om_top.specs.declared.diagrams.Diagram.{Diagram}
 use Rattle.om_top.specs.declared.event.Table.{Table as Numbers}

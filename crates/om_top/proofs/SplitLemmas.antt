@@ -2,7 +2,7 @@
 use Rattle.std.proofs.Common.{◌≡◌, ℕ, ◌+◌, List, [], ◌∷◌, filter, length, Bool, true, false, cond, not, inl, inr, ⊎_elim, refl, ap, ap₂, sym, subst, ◌∙◌, arith}
 use Rattle.om_ring.specs.Members.{In, Different}
 use Rattle.om_model.specs.Diagram.{times_in}
-use Rattle.om_model.proofs.Membership.{in_flat_map}
+use Rattle.om_ring.proofs.Members.{in_flat_map}
 use Rattle.om_model.proofs.Counting.{in_of_times, times_of_in}
 use Rattle.om_top.specs.declared.combinations.Split.{Split}
 use Rattle.om_top.specs.Choices.{with_leg, splits}

@@ -2,13 +2,12 @@
 use Rattle.std.proofs.Common.{◌≡◌, ℕ, zero, suc, ◌-◌, ◌<◌, ◌≤◌, List, [], ◌∷◌, map, flat_map, length, Bool, true, false, cond, ◌&&◌, eqb, ltb, ◌↔◌, inl, inr, ⊎_elim, refl, ap, ap₂, sym, subst, ◌∙◌, arith, true≢false}
 use Rattle.std.proofs.lemmas.Bool.Decides.{nat_tests}
 use Rattle.om_ring.specs.Members.{In, Different}
-use Rattle.om_ring.proofs.Members.{different_filter, different_map, of_map}
+use Rattle.om_ring.proofs.Members.{different_filter, different_map, of_map, in_left, in_right, in_either, in_map, in_flat_map, in_filter}
 use Rattle.om_model.specs.Theory.{Scattering}
 use Rattle.om_model.specs.Tree.{Tree, Branches, legs, legs_all, count}
 use Rattle.om_model.specs.Tree.Tree.{leaf, join}
 use Rattle.om_model.specs.Diagram.{upto, times_in, same_numbers, field_of, fields_of, fits, is_diagram}
 use Rattle.om_model.specs.Diagrams.{counts}
-use Rattle.om_model.proofs.Membership.{in_left, in_right, in_either, in_map, in_flat_map, in_filter}
 use Rattle.om_model.proofs.Counting.{both, same_times, length-upto}
 use Rattle.om_top.specs.declared.interactions.Interaction.{Interaction}
 use Rattle.om_top.specs.Choices.{below, orders_of}

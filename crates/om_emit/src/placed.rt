@@ -1,0 +1,93 @@
+//! Instructions with slots in place of registers.
+ghost use Rattle.std.specs.Prelude.{◌≡◌, map, length, IfOk};
+ghost use Rattle.std.specs.List.{AllByRecursion};
+ghost use Rattle.om_code.specs.Slots.{nodes_of};
+ghost use Rattle.om_emit.specs.Planning.{slot_in_plan};
+ghost use Rattle.om_emit.specs.Counts.{CountsNodes};
+ghost use Rattle.om_code.specs.Ops.{op_of, placed_op};
+
+use crate::slot_plan::SlotPlan;
+use om_code::Instr;
+use om_legs::Branches;
+use om_ring::{List, NoMemory};
+use std::alloc::Global;
+
+/// Instructions with the slots of a plan in place of their registers.
+pub(crate) fn placed_all(
+    alloc: Global,
+    instrs: &[Instr],
+    plan: &SlotPlan,
+) -> Result<List<Instr>, NoMemory>
+    ensures ops { IfOk result (λ placed. map op_of placed ≡ map (placed_op (slot_in_plan plan.now)) (map op_of instrs.now)) }
+    ensures counted { IfOk result (λ placed. AllByRecursion CountsNodes placed) }
+{
+    let mut list = List::new(alloc);
+    for instr in instrs {
+        list.push(placed(instr, plan))?;
+    }
+    Ok(list)
+}
+
+fn placed(instr: &Instr, plan: &SlotPlan) -> Instr
+    ensures op { op_of result ≡ placed_op (slot_in_plan plan.now) (op_of instr.now) }
+    ensures counted { CountsNodes result }
+{
+    match instr {
+        Instr::Load { to, leg } => Instr::Load {
+            to: plan.slot(*to),
+            leg: *leg,
+        },
+        Instr::Fuse {
+            to,
+            minus,
+            vertex,
+            choice,
+            branches,
+        } => Instr::Fuse {
+            to: plan.slot(*to),
+            minus: *minus,
+            vertex: *vertex,
+            choice: *choice,
+            branches: placed_branches(branches, plan),
+        },
+        Instr::Prop { of, den } => Instr::Prop {
+            of: plan.slot(*of),
+            den: *den,
+        },
+        Instr::Key {
+            flow,
+            minus,
+            vertex,
+            choice,
+            branches,
+        } => Instr::Key {
+            flow: *flow,
+            minus: *minus,
+            vertex: *vertex,
+            choice: *choice,
+            branches: placed_branches(branches, plan),
+        },
+    }
+}
+
+fn placed_branches(branches: &Branches, plan: &SlotPlan) -> Branches
+    ensures nodes { nodes_of result ≡ map (slot_in_plan plan.now) (nodes_of branches.now) }
+    ensures counted { result.count ≡ length (nodes_of result) }
+{
+    let [first, second, third, fourth] = branches.nodes;
+    let (first, second) = (plan.slot(first), plan.slot(second));
+    match branches.count {
+        2 => Branches {
+            count: 2,
+            nodes: [first, second, 0, 0],
+        },
+        3 => Branches {
+            count: 3,
+            nodes: [first, second, plan.slot(third), 0],
+        },
+        _ => Branches {
+            count: 4,
+            nodes: [first, second, plan.slot(third), plan.slot(fourth)],
+        },
+    }
+}

@@ -1,0 +1,94 @@
+//! The first-fit plan.
+ghost use Rattle.std.specs.Prelude.{◌≡◌, ◌^◌, ◌<◌, ◌≤◌, ℕ, true, length, IfOk, vec_len, All, slice_index_or};
+ghost use Rattle.om_code.specs.Spans.{is_named, width};
+ghost use Rattle.om_code.specs.SlotPlans.{first_fit, slot_or_0};
+ghost use Rattle.om_code.specs.Ops.{registers_of, lines_of_code};
+ghost use Rattle.om_emit.specs.Planning.{slot_in_plan, mark_each, last_uses};
+
+use crate::planner::Planner;
+use om_code::Instr;
+use om_ring::NoMemory;
+use std::alloc::Global;
+use std::collections::BTreeSet;
+
+/// Slots for the registers of an instruction list.
+#[derive(Drop)]
+pub struct SlotPlan {
+    slots: Vec<Option<u32>>,
+    count: u32,
+}
+
+impl SlotPlan {
+    /// The slot of a register, or 0 where no instruction names it.
+    pub fn slot(&self, register: u32) -> u32
+        ensures { result ≡ slot_in_plan self.now register }
+    {
+        match self.slots.get(register as usize) {
+            Some(Some(slot)) => *slot,
+            _ => 0,
+        }
+    }
+
+    /// How many slots there are.
+    pub fn count(&self) -> u32
+        ensures { result ≡ self.now.count }
+    {
+        self.count
+    }
+}
+
+/// The first-fit plan of an instruction list whose registers are below `registers`.
+///
+/// It goes once over the instructions to find the last use of each register, and once to give the
+/// slots. The numbers that are free are kept in order, so a step takes the logarithm of their number.
+pub fn first_fit(alloc: Global, instrs: &[Instr], registers: u32) -> Result<SlotPlan, NoMemory>
+    requires few { registers < 2 ^ 31 }
+    requires in_range { (r : ℕ) → is_named (lines_of_code instrs.now) r ≡ true → r < registers }
+    ensures plan { IfOk result (λ plan. (r : ℕ) → is_named (lines_of_code instrs.now) r ≡ true → slot_in_plan plan r ≡ first_fit (lines_of_code instrs.now) r) }
+    ensures count { IfOk result (λ plan. plan.count ≡ width (lines_of_code instrs.now)) }
+{
+    let last_uses = last_uses(alloc, instrs, registers)?;
+    let Ok(slots) = vec![in alloc; None; registers as usize] else {
+        return Err(NoMemory);
+    };
+    let mut planner = Planner {
+        slots,
+        free: BTreeSet::new(alloc),
+        count: 0,
+    };
+    for (i, instr) in instrs.iter().enumerate() {
+        let operands = instr.operands();
+        let named = operands.as_slice();
+        planner.give_all(named);
+        planner.release_all(named, &last_uses, i)?;
+    }
+    Ok(SlotPlan {
+        slots: planner.slots,
+        count: planner.count,
+    })
+}
+
+// By register, the last instruction that names it.
+fn last_uses(alloc: Global, instrs: &[Instr], registers: u32) -> Result<Vec<usize>, NoMemory>
+    requires in_range { All (λ instr. All (λ r. r < registers) (registers_of instr)) instrs.now }
+    ensures last { IfOk result (λ last. last.items ≡ last_uses registers (lines_of_code instrs.now) (length instrs.now)) }
+    ensures length { IfOk result (λ last. vec_len last ≡ registers) }
+{
+    let Ok(mut last) = vec![in alloc; 0; registers as usize] else {
+        return Err(NoMemory);
+    };
+    for (i, instr) in instrs.iter().enumerate() {
+        mark_each(&mut last, instr.operands().as_slice(), i);
+    }
+    Ok(last)
+}
+
+fn mark_each(last: &mut Vec<usize>, registers: &[u32], at: usize)
+    requires in_range { All (λ r. r < vec_len last.old) registers.now }
+    ensures marked { last.new.items ≡ mark_each at last.old.items registers.now }
+    ensures length { vec_len last.new ≡ vec_len last.old }
+{
+    for register in registers {
+        last[*register as usize] = at;
+    }
+}
