@@ -14,7 +14,7 @@ use Rattle.om_graph.specs.Fillings.{AreFillings, AreVertices, filled_at, filling
 use Rattle.om_graph.specs.Loops.{meetings_of}
 use Rattle.om_graph.specs.Vertices.{Reaction, fields_of}
 use Rattle.om_graph.proofs.KeptMeetings.{none_kept}
-use Rattle.om_graph.proofs.Lists.{in_mapped}
+use Rattle.om_ring.proofs.Members.{in_mapped}
 use Rattle.om_graph.proofs.MeetingLists.{in_at, meeting_vertex, same_meetings}
 
 fields_of_sides : (ks : List Key) → map (λ (s : Side). s.field) (sides_of ks) ≡ fields_of ks
