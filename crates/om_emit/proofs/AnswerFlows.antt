@@ -19,7 +19,7 @@ use Rattle.om_graph.specs.declared.Graph.{Graph}
 use Rattle.om_graph.specs.declared.Key.{Key}
 use Rattle.om_graph.specs.Possible.{flow_lt, unsigned_key}
 use Rattle.om_graph.specs.Reactions.{reaction_of}
-use Rattle.om_graph.proofs.Lists.{in_map, in_mapped}
+use Rattle.om_ring.proofs.Members.{in_map, in_mapped}
 use Rattle.om_keystone.specs.CanonicalGraph.{IsCanonicalOf}
 use Rattle.om_keystone.proofs.Numbers.{rising_mapped}
 use Rattle.om_keystone.proofs.OutwardEdges.{flows_are_theirs, nodes_are_edges}
@@ -48,13 +48,13 @@ emitted_flows_are_theirs m p formed of g canonical c code ts are =
     (rising_mapped flow_lt numbers_lt (λ w. w.ends) g.flows (λ u w i j h. h) canonical.graph.flows_rise)
     (rising_of_rising numbers_lt numbers_order (map flow ts))
     (λ z i.
-        let w = in_mapped (λ (w : Flow). w.ends) z g.flows i in
-        let t = (theirs w.0).0 w.1 in
-        (in_rising_of numbers_lt numbers_order z (map flow ts)).0 (subst (λ x. In x (map flow ts)) (sym (ap (λ (x : Flow). x.ends) t.2) ∙ sym w.2) (in_map flow t.0 ts ((are.members t.0).1 t.1))))
+    let w = in_mapped (λ (w : Flow). w.ends) z g.flows i in
+    let t = (theirs w.0).0 w.1 in
+    (in_rising_of numbers_lt numbers_order z (map flow ts)).0 (subst (λ x. In x (map flow ts)) (sym (ap (λ (x : Flow). x.ends) t.2) ∙ sym w.2) (in_map flow t.0 ts ((are.members t.0).1 t.1))))
     (λ z i.
-        let t = in_mapped flow z ts ((in_rising_of numbers_lt numbers_order z (map flow ts)).1 i) in
-        let w = flow_at s (colours_of m) (opened_at_top s t.0) in
-        subst (λ x. In x (map (λ w. w.ends) g.flows)) (sym t.2) (in_map (λ (x : Flow). x.ends) w g.flows ((theirs w).1 (t.0, (are.members t.0).0 t.1, refl))))
+    let t = in_mapped flow z ts ((in_rising_of numbers_lt numbers_order z (map flow ts)).1 i) in
+    let w = flow_at s (colours_of m) (opened_at_top s t.0) in
+    subst (λ x. In x (map (λ w. w.ends) g.flows)) (sym t.2) (in_map (λ (x : Flow). x.ends) w g.flows ((theirs w).1 (t.0, (are.members t.0).0 t.1, refl))))
 
 no_ops : (m : Model) (n : ℕ) (g : Graph) → g.nodes ≡ [] → g.keys ≡ [] → register_ops m n g ≡ []
 unfolding register_ops nodes_ops

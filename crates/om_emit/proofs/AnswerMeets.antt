@@ -29,7 +29,7 @@ use Rattle.om_model.specs.Slots.{in_slots}
 use Rattle.om_model.specs.Theory.{Scattering}
 use Rattle.om_model.specs.Value.{entering, vertex_entry}
 use Rattle.om_model.proofs.Reordering.{reordered_back, reordered_swap, length-reordered}
-use Rattle.om_graph.proofs.Lists.{in_map, in_mapped}
+use Rattle.om_ring.proofs.Members.{in_map, in_mapped}
 use Rattle.om_keystone.specs.EdgeRules.{with_indices}
 use Rattle.om_code.specs.declared.code.Code.{Code}
 use Rattle.om_code.specs.Contents.{EnteringWave, open_slot, slots_of, waves_in_slots}
@@ -45,16 +45,17 @@ use Rattle.om_emit.proofs.AnswerSets.{IsSetOf, members_are, least_is, others_are
 -- parts of a split have different least legs
 pub leasts-differ : (parts : List ℕ) → ((leg : ℕ) → times_held leg parts ≤ 1) → ((x : ℕ) → In x parts → sets.IsLegSet x × (0 < x)) → Different (map sets.least parts)
 leasts-differ [] h w = tt
-leasts-differ (p ∷ ps) h w =
-    ((λ i.
-        let q = in_mapped sets.least (sets.least p) ps i in
-        let here : sets.holds p (sets.least p) ≡ true = (let s = w p (inl refl) in holds-least p s.1 s.0) in
-        let there : sets.holds q.0 (sets.least p) ≡ true = (let s = w q.0 (inr q.1) in ap (sets.holds q.0) q.2 ∙ holds-least q.0 s.1 s.0) in
-        let more = held_counted (sets.least p) q.0 ps q.1 there in
-        let count = times_held-cons (sets.least p) p ps ∙ ap (λ b. bit b + times_held (sets.least p) ps) here in
-        let most = h (sets.least p) in
-        absurd (omega arith)),
-    leasts-differ ps (λ leg. let most = h leg in let count = times_held-cons leg p ps in omega arith) (λ x i. w x (inr i)))
+leasts-differ (p ∷ ps) h w = (
+  (λ i.
+      let q = in_mapped sets.least (sets.least p) ps i in
+      let here : sets.holds p (sets.least p) ≡ true = (let s = w p (inl refl) in holds-least p s.1 s.0) in
+      let there : sets.holds q.0 (sets.least p) ≡ true = (let s = w q.0 (inr q.1) in ap (sets.holds q.0) q.2 ∙ holds-least q.0 s.1 s.0) in
+      let more = held_counted (sets.least p) q.0 ps q.1 there in
+      let count = times_held-cons (sets.least p) p ps ∙ ap (λ b. bit b + times_held (sets.least p) ps) here in
+      let most = h (sets.least p) in
+      absurd (omega arith)),
+  leasts-differ ps (λ leg. let most = h leg in let count = times_held-cons leg p ps in omega arith) (λ x i. w x (inr i)),
+)
 
 -- the open slot, and the field there
 pub open-at : {E : Type 0} (o : Ops E) (u : ℕ) (qs : List (EnteringWave E)) → open_edges o qs ≡ 1 → Each (λ q. q.wave ≡ None → q.field ≡ u) qs

@@ -83,7 +83,7 @@ module _ {E : Type 0} (o : Ops E) (l : Laws o) (c : Code) (p : Process) (formed 
 pub emitted_code_gives_answer : {E : Type 0} (o : Ops E) → Laws o → EmittedCodeGivesAnswer o
 emitted_code_gives_answer {E} o l m p formed of g canonical c code t e made =
     let Said : Model → Type 0 = λ x. IsWellFormed x → IsProcessOf x p → IsCanonicalOf (reaction_of x p) g → IsCodeOf x p g c
-        → (b : Answer E) → MeansAnswer o c t e b ↔ IsAnswer o (scattering_of x p) (feynman_rules o x t) (lines_of x p) (event_of o e) b in
+    → (b : Answer E) → MeansAnswer o c t e b ↔ IsAnswer o (scattering_of x p) (feynman_rules o x t) (lines_of x p) (event_of o e) b in
     subst Said code.same_model (λ f q n k. both_ways o l c p f q g n k t e made) formed of canonical code
 
 pub evaluated_is_answer : {E : Type 0} (o : Ops E) → Laws o → EvaluatedIsAnswer o
