@@ -34,17 +34,6 @@ pub mod HeldNodes
 pub mod SplitHelds
 pub mod GraphHelds
 pub mod DenPlaces
-pub mod AnswerNests
-pub mod AnswerSlots
-pub mod AnswerKernels
-pub mod AnswerSets
-pub mod AnswerMeets
-pub mod AnswerTerms
-pub mod AnswerNodes
-pub mod AnswerSums
-pub mod AnswerPoles
-pub mod EmittedAnswer
-pub mod AnswerFlows
 pub mod GraphRules
 pub mod RowsPlain
 pub mod ProgramParts

@@ -7,4 +7,3 @@ pub mod NodeContents
 pub mod EdgesAbove
 pub mod Counts
 pub mod Laws
-pub mod EmittedAnswer
