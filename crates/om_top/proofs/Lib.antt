@@ -1,9 +1,11 @@
 pub mod Short
+pub mod Sampled
 pub mod Files
 pub mod ProgramLines
 pub mod CallBounds
 pub mod Values
 pub mod ProgramRuns
+pub mod SampleWords
 pub mod Streams
 pub mod CodeAnswers
 pub mod StreamSteps
