@@ -11,3 +11,4 @@ pub mod CodeAnswers
 pub mod StreamSteps
 pub mod Refused
 pub mod EvalRuns
+pub mod AskedWords
