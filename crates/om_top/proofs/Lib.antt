@@ -12,3 +12,6 @@ pub mod StreamSteps
 pub mod Refused
 pub mod EvalRuns
 pub mod AskedWords
+pub mod Accepted
+pub mod Endings
+pub mod CauseLemmas
