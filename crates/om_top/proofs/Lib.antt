@@ -15,3 +15,4 @@ pub mod AskedWords
 pub mod Accepted
 pub mod Endings
 pub mod CauseLemmas
+pub mod OutsideFaults
