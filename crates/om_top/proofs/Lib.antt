@@ -16,3 +16,4 @@ pub mod Accepted
 pub mod Endings
 pub mod CauseLemmas
 pub mod OutsideFaults
+pub mod Completeness

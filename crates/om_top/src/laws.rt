@@ -1,5 +1,6 @@
 //! Laws of the definitions that the contract of [`run`](crate::run) rests on.
 ghost use Rattle.om_top.specs.Causes.{UsageCause, ModelCause, ProcessCause, SizeCause, ProgramCause, EventsCause, ProgramEventsCause, FaultsHaveCauses, QuietEndings, CommandEndings};
+ghost use Rattle.om_top.specs.Complete.{EvalIsComplete, RunIsComplete, CheckIsComplete, CompileIsComplete, GraphIsComplete, SampleIsComplete};
 
 use om_ring::Ring;
 
@@ -65,6 +66,18 @@ pub fn quiet_endings<R: Ring>(ring: &R)
 /// Each command ends with one of its statuses.
 pub fn command_endings<R: Ring>(ring: &R)
     ensures { CommandEndings (R.ops ring.now) (R.text ring.now) }
+{
+    let _ring = ring;
+}
+
+/// Where nothing is refused and no count of faults rises, each command is done with its defined bytes, or memory runs out.
+pub fn commands_complete<R: Ring>(ring: &R)
+    ensures eval { EvalIsComplete (R.ops ring.now) (R.text ring.now) }
+    ensures run { RunIsComplete (R.ops ring.now) (R.text ring.now) }
+    ensures check { CheckIsComplete (R.ops ring.now) (R.text ring.now) }
+    ensures compile { CompileIsComplete (R.ops ring.now) (R.text ring.now) }
+    ensures graph { GraphIsComplete (R.ops ring.now) (R.text ring.now) }
+    ensures sample { SampleIsComplete (R.ops ring.now) (R.text ring.now) }
 {
     let _ring = ring;
 }
