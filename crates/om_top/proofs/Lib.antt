@@ -17,3 +17,4 @@ pub mod Endings
 pub mod CauseLemmas
 pub mod OutsideFaults
 pub mod Completeness
+pub mod Statuses
