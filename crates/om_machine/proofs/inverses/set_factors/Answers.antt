@@ -29,9 +29,9 @@ loop-done-preserved g c =
     let before : c.at.result.now ≡ product_before o xs k = at_place o c.loop-done.edges k c.at.result.now c.at.ensures ∙ inv.products k (omega (arith, size)) in
     let own : o.inverse c.index-denominators-k.result ≡ Some c.mul-own.result = ap o.inverse there ∙ own-inverse o l xs n k c.loop-done.left c.at.result.now c.mul-own.result size inv.inverse before c.mul-own.ensures.value in
     let value : AreEdgesFrom o c.args.code.now t c.args.event.now k c.set.new.self = edges-before o c.args.code.now t c.args.event.now n k c.at-den.result.now c.mul-own.result c.mul-factor.result c.loop-done.edges c.set.new.self size c.at-den.ensures place
-        (ap o.inverse (sym here) ∙ own)
-        (c.mul-factor.ensures.value ∙ ap (λ m. o.times m.norm c.mul-own.result) (c.masses_in-norm.ensures ∙ ap (row_of_masses o c.args.masses.now) c.from.ensures))
-        c.set.ensures inv.value in
+    (ap o.inverse (sym here) ∙ own)
+    (c.mul-factor.ensures.value ∙ ap (λ m. o.times m.norm c.mul-own.result) (c.masses_in-norm.ensures ∙ ap (row_of_masses o c.args.masses.now) c.from.ensures))
+    c.set.ensures inv.value in
     let left = left-over o l xs n k c.loop-done.left c.mul-left.result size inv.inverse (c.mul-left.ensures.value ∙ ap (o.times c.loop-done.left) there) in
     record {
       value = subst (λ m. AreEdgesFrom o c.args.code.now t c.args.event.now m c.set.new.self) (sym next) value;
