@@ -1,26 +1,19 @@
 -- How many calls of the ring the commands make at most.
-use Rattle.std.proofs.Common.{◌≡◌, ℕ, ◌+◌, ◌*◌, ◌≤◌, List, [], length, map, Option, Some, None, Ok, refl, ap, sym, ◌∙◌, arith, inl, inr}
-use Rattle.std.specs.List.{sum_by}
+use Rattle.std.proofs.Common.{◌≡◌, ℕ, ◌+◌, ◌*◌, ◌≤◌, List, [], ◌∷◌, length, map, Option, Some, None, IfSome, Result, Ok, Err, refl, ap, sym, ◌∙◌, arith, inl, inr}
 use Rattle.std.proofs.Math.Nat.{mul-le-mul_right}
 use Rattle.om_ring.specs.Ops.{Ops}
-use Rattle.om_model.specs.Diagrams.{AreDiagrams}
-use Rattle.om_model.specs.Model.{scattering_of}
-use Rattle.om_model.specs.ScalarRules.{HasColourlessScalars}
-use Rattle.om_model.specs.Theory.{Scattering}
-use Rattle.om_model.specs.Tree.{Tree}
 use Rattle.om_model.specs.declared.model.Model.{Model}
-use Rattle.om_model.specs.declared.process.Process.{Process}
-use Rattle.om_model.proofs.AllDiagrams.{diagrams, diagrams_are}
-use Rattle.om_model.proofs.Counting.{length-upto}
 use Rattle.om_modelfile.specs.ModelOf.{rows_read}
-use Rattle.om_top.specs.Calls.{CheckMayCall, EvalMayCall, LoadMayCall, answer_calls, evaluation_calls, file_calls, legs_calls, numbers_calls, search_calls, value_calls}
-use Rattle.om_top.specs.Loads.{HoldsModel, SaysProcess}
+use Rattle.om_asm.specs.Program.{program_of}
+use Rattle.om_code.specs.declared.code.Code.{Code}
+use Rattle.om_machine.specs.Machines.{LoadedCode}
+use Rattle.om_top.specs.declared.ending.Ending.{Ending}
+use Rattle.om_emit.specs.GraphCode.{IsCodeOf}
+use Rattle.om_graph.specs.declared.Graph.{Graph}
+use Rattle.om_model.specs.declared.process.Process.{Process}
+use Rattle.om_top.specs.Cost.{EvalMayCall, EventsMayCall, FileMayCall, IsCodeFor, ProgramMayCall, TextMayCall, file_calls, loading_calls, program_calls, rows_calls}
+use Rattle.om_top.specs.Loads.{AreNamed, HoldsModel, HoldsProgram, ReadsProgram}
 use Rattle.om_top.specs.Outside.{Side, Holds}
-use Rattle.om_top.specs.Shapes.{ListsDiagrams, shape_of}
-use Rattle.om_top.specs.declared.limits.TheConstants.{MOST_EVALUATED_LEGS}
-use Rattle.om_top.specs.declared.diagrams.Diagram.{Diagram}
-use Rattle.om_top.specs.declared.diagrams.Diagrams.{Diagrams}
-use Rattle.om_top.proofs.CallLemmas.{sum_by-map, sum_by-some}
 
 -- a file holds its bytes, or any where it tells none
 pub holds_some : (file : Side) → (bytes : List ℕ) × Holds file bytes
@@ -30,61 +23,59 @@ holds_some file = by file.before refl
     by None e = ([], rw e tt)
     by (Some bytes) e = (bytes, rw e refl)
 
+-- the bytes of a file that was read
+pub holds_read : (told : Option (List ℕ)) (bytes items : List ℕ) → bytes ≡ items → IfSome told (λ all. items ≡ all) → IfSome told (λ all. all ≡ bytes)
+holds_read None bytes items e h = tt
+holds_read (Some all) bytes items e h = sym (e ∙ h)
+
 -- nothing was called
-pub none_called : (file : Side) (before cost : ℕ) → (n : ℕ) × CheckMayCall file n × (before ≤ before + n * cost)
+pub none_called : (file : Side) (before cost : ℕ) → (n : ℕ) × FileMayCall file n × (before ≤ before + n * cost)
 none_called file before cost = let h = holds_some file in (file_calls h.0, (h.0, h.1, refl), omega arith)
+
+pub no_text_called : (file : Side) (before cost : ℕ) → (n : ℕ) × TextMayCall file n × (before ≤ before + n * cost)
+no_text_called file before cost = let h = holds_some file in (program_calls h.0, (h.0, h.1, refl), omega arith)
+
+-- the code of a text
+pub loads_code : (bytes : List ℕ) (c : Code) → program_of bytes ≡ Ok c → rows_calls c.model ≡ program_calls bytes
+loads_code bytes c e = ap loading_calls (sym e)
 
 module _ {E : Type 0} (o : Ops E) (file : Side) where
   -- a model whose file was read
-  loaded : (m : Model) → (holds : HoldsModel o file m) → 200 * (length m.particles + length m.vertices) ≡ file_calls holds.0
+  pub loaded : (m : Model) → (holds : HoldsModel o file m) → rows_calls m ≡ file_calls holds.0
   loaded m (bytes, held, is_file) = ap (λ said. 200 * rows_read said) (sym is_file.says.0)
 
-  pub check_calls : (m : Model) → HoldsModel o file m → (n : ℕ) → LoadMayCall file (Ok m) n → CheckMayCall file n
-  check_calls m holds n e = (holds.0, holds.1, e ∙ loaded m holds)
+  -- a program whose file was read
+  pub loaded_code : (c : Code) → (holds : HoldsProgram o file c) → rows_calls c.model ≡ program_calls holds.0
+  loaded_code c (bytes, held, is_file) = loads_code bytes c is_file.says.reads
 
-  -- only the file was read
-  pub eval_none : (text : List ℕ) (n : ℕ) → CheckMayCall file n → EvalMayCall o file text n
-  eval_none text n (bytes, held, e) = (bytes, held, 0, inl refl, omega arith)
+  pub file_called : (m : Model) → HoldsModel o file m → FileMayCall file (rows_calls m)
+  file_called m holds = (holds.0, holds.1, loaded m holds)
 
-three_parts : (n l a b cost before x y z : ℕ) → x ≤ before + n * cost → y ≤ x + l * cost → z ≤ y + a * cost → a ≤ b → z ≤ before + (n + l + b) * cost
-three_parts n l a b cost before x y z p q r h = omega (arith, mul-le-mul_right cost h)
+-- a program was loaded from the bytes of a file, or wasn't
+module _ {E : Type 0} (o : Ops E) (file : Side) (bytes : List ℕ) (held : Holds file bytes) where
+  pub program_called : (result : Result (LoadedCode E) Ending) → ReadsProgram o bytes result → (before now cost : ℕ) → now ≤ before + program_calls bytes * cost
+      → (n : ℕ) × ProgramMayCall file result n × (now ≤ before + n * cost)
+  program_called (Ok m) says before now cost h = (rows_calls m.code.model, refl, omega (arith, h, ap (λ n. n * cost) (loads_code bytes m.code says.reads)))
+  program_called (Err e) says before now cost h = (program_calls bytes, (bytes, held, refl), h)
 
--- the evaluation of a process, by any list of its diagrams
-module _ (m : Model) (p : Process) (ts : List Tree) where
-  abbrev s : Scattering
-  s = scattering_of m p
+-- a process was evaluated, or wasn't
+module _ {E : Type 0} (o : Ops E) (file input : Side) (text : List ℕ) (before cost : ℕ) where
+  pub eval_refused : (now : ℕ) → (n : ℕ) × FileMayCall file n × (now ≤ before + n * cost) → (n : ℕ) × EvalMayCall o file text input n × (now ≤ before + n * cost)
+  eval_refused now (n, (bytes, held, is), h) =
+      (2 * n, (bytes, held, 0, inl refl, omega (arith, is)), omega (arith, h))
 
-  abbrev shapes : List Diagram
-  shapes = map (shape_of s) ts
+  module _ (m : Model) (p : Process) (g : Graph) (named : AreNamed o file text m p g) (read loaded now : ℕ) (h : (n : ℕ) × (n ≡ rows_calls m) × (read ≤ before + n * cost)) (k : loaded ≤ read + rows_calls m * cost) where
+    abbrev bytes : List ℕ
+    bytes = named.model.0
 
-  -- nothing or only the numbers of the model were computed
-  pub prepared_calls : (cost before now : ℕ) → now ≤ before + numbers_calls m * cost → now ≤ before + evaluation_calls m p ts * cost
-  prepared_calls cost before now h = three_parts (numbers_calls m) (legs_calls (length p.legs)) 0 (answer_calls (length p.legs) shapes) cost before now now now h (omega arith) (omega arith) (omega arith)
+    both : file_calls bytes ≡ rows_calls m
+    both = ap (λ said. 200 * rows_read said) named.model.2.says.0
 
-  -- an event was read too
-  pub read_calls : (cost before x now : ℕ) → x ≤ before + numbers_calls m * cost → now ≤ x + legs_calls (length p.legs) * cost → now ≤ before + evaluation_calls m p ts * cost
-  read_calls cost before x now h k = three_parts (numbers_calls m) (legs_calls (length p.legs)) 0 (answer_calls (length p.legs) shapes) cost before x now now h k (omega arith) (omega arith)
+    pub eval_unloaded : (n : ℕ) × EvalMayCall o file text input n × (loaded ≤ before + n * cost)
+    eval_unloaded =
+        (2 * file_calls bytes, (bytes, named.model.1, 0, inl refl, omega arith), omega (arith, k, h.2, ap (λ n. n * cost) h.1, ap (λ n. n * cost) both))
 
-  module _ (d : Diagrams) (h : ListsDiagrams s d) (are : AreDiagrams s ts) where
-    at_most : (f : Diagram → ℕ) → sum_by f d.list ≤ sum_by f shapes
-    at_most f =
-        let listed : sum_by f d.list ≡ sum_by (λ t. f (shape_of s t)) h.trees = ap (sum_by f) h.list ∙ sum_by-map f (shape_of s) h.trees in
-        omega (arith, listed, sum_by-map f (shape_of s) ts, sum_by-some (λ t. f (shape_of s t)) h.trees ts h.are_all.different (λ t i. (are.members t).1 ((h.are_all.members t).0 i)))
-
-    answer_at_most : answer_calls (length d.legs) d.list ≤ answer_calls (length p.legs) shapes
-    answer_at_most = let size : length d.legs ≡ length p.legs = ap length h.legs ∙ length-upto s.size in omega (arith, at_most search_calls, at_most value_calls)
-
-    -- the event was answered too
-    pub answered_calls : (cost before x y now : ℕ) → x ≤ before + numbers_calls m * cost → y ≤ x + legs_calls (length p.legs) * cost → now ≤ y + answer_calls (length d.legs) d.list * cost → now ≤ before + evaluation_calls m p ts * cost
-    answered_calls cost before x y now a b c = three_parts (numbers_calls m) (legs_calls (length p.legs)) (answer_calls (length d.legs) d.list) (answer_calls (length p.legs) shapes) cost before x y now a b c answer_at_most
-
--- a process of the file was evaluated
-module _ {E : Type 0} (o : Ops E) (file : Side) (text : List ℕ) (m : Model) (p : Process) (holds : HoldsModel o file m) (scalars : HasColourlessScalars m) (says : SaysProcess m text p) (few : length p.legs ≤ MOST_EVALUATED_LEGS) where
-  pub eval_calls : (n cost before x now : ℕ) → LoadMayCall file (Ok m) n → x ≤ before + n * cost
-      → ((ts : List Tree) → AreDiagrams (scattering_of m p) ts → now ≤ x + evaluation_calls m p ts * cost) → (k : ℕ) × EvalMayCall o file text k × (now ≤ before + k * cost)
-  eval_calls n cost before x now e h each =
-      let ts = diagrams (scattering_of m p) in
-      let are = diagrams_are (scattering_of m p) in
-      let more = evaluation_calls m p ts in
-      let all : n + more ≡ file_calls holds.0 + more = ap (λ k. k + more) (e ∙ loaded o file m holds) in
-      (n + more, (holds.0, holds.1, more, inr (m, p, ts, record { model = holds.2; scalars = scalars; process = says; few = few }, are, refl), all), omega (arith, each ts are))
+    pub eval_called : (c : Code) → IsCodeOf m p g c → (n : ℕ) × EventsMayCall o c input n × (now ≤ loaded + n * cost) → (n : ℕ) × EvalMayCall o file text input n × (now ≤ before + n * cost)
+    eval_called c is (events, may, l) =
+        let code : IsCodeFor o bytes text c = record { model = m; process = p; graph = g; is_file = named.model.2; says = named.process; is_graph = named.graph; is_code = is } in
+        (2 * file_calls bytes + events, (bytes, named.model.1, events, inr (c, code, may), refl), omega (arith, l, k, h.2, ap (λ n. n * cost) h.1, ap (λ n. n * cost) both))

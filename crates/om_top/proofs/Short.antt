@@ -2,7 +2,7 @@
 use Rattle.std.proofs.Common.{ℕ, ◌<◌, List, [], ◌∷◌, length, map}
 use Rattle.std.specs.Prelude.{All, ◌↔◌}
 use Rattle.std.proofs.lemmas.List.Elements.{All-nil, All-cons, All-head, All-tail, All-map}
-use Rattle.om_top.specs.declared.limits.TheConstants.{WORD_LIMIT}
+use Rattle.om_top.specs.declared.words.TheConstants.{WORD_LIMIT}
 use Rattle.om_top.specs.Limits.{IsWithinLimits}
 use Rattle.std.proofs.lemmas.List.{length-map}
 

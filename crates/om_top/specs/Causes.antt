@@ -1,126 +1,180 @@
 -- When each refusal and each fault comes, and what stands then.
-use Rattle.std.specs.Prelude.{ℕ, ◌≡◌, ◌≢◌, ◌≤◌, ◌<◌, ◌↔◌, ◌⊎◌, Bool, true, false, List, [], ◌∷◌, length, Option, Some, None, Ok, Err}
+use Rattle.std.specs.Prelude.{ℕ, ◌≡◌, ◌≢◌, ◌<◌, ◌↔◌, ◌⊎◌, Bool, true, false, List, [], ◌∷◌, length, Option, Some, None, Err}
 use Rattle.om_ring.specs.Ops.{Ops}
 use Rattle.om_ring.specs.Members.{In}
 use Rattle.om_model.specs.Diagrams.{counts}
 use Rattle.om_model.specs.Model.{scattering_of}
 use Rattle.om_model.specs.ProcessText.{process_of}
-use Rattle.om_model.specs.ScalarRules.{HasColourlessScalars}
 use Rattle.om_model.specs.Theory.{Scattering}
 use Rattle.om_model.specs.Tree.{Tree}
 use Rattle.om_model.specs.declared.model.Model.{Model}
 use Rattle.om_model.specs.declared.process.Process.{Process}
 use Rattle.om_model.specs.declared.process.ProcessFault.{ProcessFault}
-use Rattle.om_modelfile.specs.ModelOf.{SaysModel}
 use Rattle.om_modelfile.specs.declared.fault.ModelFault.{ModelFault}
-use Rattle.om_top.specs.Command.{Command, check, eval, model_name}
-use Rattle.om_top.specs.Eval.{IsNoEvent}
-use Rattle.om_top.specs.Loads.{HoldsModel, IsModelFile, SaysFault, SaysProcess}
+use Rattle.om_graph.specs.declared.Graph.{Graph}
+use Rattle.om_code.specs.declared.code.Code.{Code}
+use Rattle.om_event.specs.Events.{Ending as Ended, at_end, events_of}
+use Rattle.om_event.specs.declared.kind.WaveKind.{WaveKind}
+use Rattle.om_top.specs.Command.{Command, check, eval, compile, run, graph, sample}
+use Rattle.om_top.specs.EvalRan.{process_kinds}
+use Rattle.om_top.specs.Loads.{HoldsModel, HoldsProgram, IsGraphOf, IsModelFile, IsProgramFile, IsTooLarge, SaysFault, SaysProcess, SaysProgramFault}
 use Rattle.om_top.specs.Message.{status_of}
-use Rattle.om_top.specs.Outside.{Outside, Failed, Holds, IsUntouched, IsQuiet}
+use Rattle.om_top.specs.Outside.{Outside, Failed, IsUntouched, IsQuiet}
 use Rattle.om_top.specs.Ran.{Ran}
-use Rattle.om_top.specs.declared.limits.TheConstants.{MOST_EVALUATED_LEGS, MOST_FILE_BYTES}
+use Rattle.om_top.specs.Streamed.{kinds_of}
+use Rattle.om_top.specs.declared.faults.program.ProgramFault.{ProgramFault}
+use Rattle.om_top.specs.declared.load.model.TheConstants.{MOST_MODEL_BYTES}
+use Rattle.om_top.specs.declared.load.program.TheConstants.{MOST_PROGRAM_BYTES}
 use Rattle.om_top.specs.declared.ending.Ending.{Ending}
 use Rattle.om_top.specs.declared.ending.Ending.TheVariants as ending
 
 -- after these endings nothing was read from the input and nothing written
 abbrev pub is_quiet : Ending → Bool
-is_quiet ending.Usage = true
-is_quiet ending.ModelTooLong = true
-is_quiet (ending.ModelFault fault) = true
-is_quiet ending.ModelNotBuilt = true
-is_quiet (ending.ProcessFault fault) = true
-is_quiet ending.ProcessNotBuilt = true
-is_quiet ending.FileFault = true
-is_quiet ending.NoMemory = true
-is_quiet _ = false
+is_quiet ending.Done = false
+is_quiet (ending.EventFault fault) = false
+is_quiet ending.InputFault = false
+is_quiet ending.OutFault = false
+is_quiet _ = true
 
--- after these endings nothing was written
-abbrev pub is_silent : Ending → Bool
-is_silent ending.EventsNotBuilt = true
-is_silent ending.InputFault = true
-is_silent _ = false
+-- the name of the model's file, where a command begins with one
+abbrev pub model_name : Command → Option (List ℕ)
+model_name (check model) = Some model
+model_name (eval model process) = Some model
+model_name (compile model process) = Some model
+model_name (run program) = None
+model_name (graph model process) = Some model
+model_name (sample seed legs) = None
+
+-- the text of a process of that model, where it goes on with one
+abbrev pub process_text : Command → Option (List ℕ)
+process_text (check model) = None
+process_text (eval model process) = Some process
+process_text (compile model process) = Some process
+process_text (run program) = None
+process_text (graph model process) = Some process
+process_text (sample seed legs) = None
+
+-- the name of the file that it reads
+abbrev pub file_name : Command → Option (List ℕ)
+file_name (run program) = Some program
+file_name command = model_name command
+
+-- the statuses of a command
+abbrev pub statuses_of : Command → List ℕ
+statuses_of (check model) = 0 ∷ 3 ∷ 7 ∷ 8 ∷ 10 ∷ []
+statuses_of (eval model process) = 0 ∷ 3 ∷ 4 ∷ 6 ∷ 7 ∷ 8 ∷ 9 ∷ 10 ∷ []
+statuses_of (compile model process) = 0 ∷ 3 ∷ 4 ∷ 7 ∷ 8 ∷ 9 ∷ 10 ∷ []
+statuses_of (run program) = 0 ∷ 5 ∷ 6 ∷ 7 ∷ 8 ∷ 10 ∷ []
+statuses_of (graph model process) = 0 ∷ 3 ∷ 4 ∷ 7 ∷ 8 ∷ 9 ∷ 10 ∷ []
+statuses_of (sample seed legs) = 0 ∷ 8 ∷ 10 ∷ []
 
 -- some diagram counts
 abbrev pub HasDiagram : Scattering → Type 0
 HasDiagram s = (t : Tree) × (counts s t ≡ true)
 
--- the text is that of no process, or of one with more legs than are evaluated
+-- the text is that of no process
 abbrev pub RefusesProcess : Model → List ℕ → Type 0
-RefusesProcess m text =
-    ((fault : ProcessFault) × (process_of m text ≡ Err fault)) ⊎ ((p : Process) × SaysProcess m text p × (MOST_EVALUATED_LEGS < length p.legs))
-
--- the command can't be done with such a model
-abbrev pub IsNotBuilt : Command → Model → Type 0
-IsNotBuilt (check name) m = ⊥
-IsNotBuilt (eval name text) m = ¬ HasColourlessScalars m
+RefusesProcess m text = (fault : ProcessFault) × (process_of m text ≡ Err fault)
 
 module _ {E : Type 0} (o : Ops E) where
-  -- the file has too many bytes, a fault, or a model that the command can't be done with
-  abbrev pub RefusesModel : Command → List ℕ → Type 0
-  RefusesModel command file =
-      (MOST_FILE_BYTES < length file) ⊎ ((fault : ModelFault) × SaysFault o file fault) ⊎ ((m : Model) × SaysModel o file (Ok m) × IsNotBuilt command m)
+  -- the file of a model has too many bytes, or a fault
+  abbrev pub RefusesModel : List ℕ → Type 0
+  RefusesModel file = (MOST_MODEL_BYTES < length file) ⊎ ((fault : ModelFault) × SaysFault o file fault)
 
-  -- the file and the text are those of a model and a process that are evaluated
-  pub record AreEvaluated (file text : List ℕ) (m : Model) (p : Process) : Type 0 where
+  -- the file of a program has too many bytes, or a fault
+  abbrev pub RefusesProgram : List ℕ → Type 0
+  RefusesProgram file = (MOST_PROGRAM_BYTES < length file) ⊎ ((fault : ProgramFault) × SaysProgramFault o file fault)
+
+  -- an input isn't events and nothing more
+  abbrev pub RefusesEvents : List WaveKind → List ℕ → Type 0
+  RefusesEvents kinds input = (events_of o kinds input).ending ≢ at_end
+
+  -- the file and the text are those of a model and a process whose graph isn't too large
+  pub record AreAccepted (file text : List ℕ) (m : Model) (p : Process) : Type 0 where
     pub model : IsModelFile o file m
-    pub scalars : HasColourlessScalars m
     pub process : SaysProcess m text p
-    pub few : length p.legs ≤ MOST_EVALUATED_LEGS
+    pub graph : Graph
+    pub is_graph : IsGraphOf m p graph
+
+  -- there was a model, a process and a graph
+  abbrev pub HasGraph : List ℕ → List ℕ → Outside → Type 0
+  HasGraph name text x = (m : Model) × (p : Process) × (g : Graph) × HoldsModel o (x.file name) m × SaysProcess m text p × IsGraphOf m p g
 
   -- nothing is refused before anything is written
   abbrev pub IsAccepted : Command → Outside → Type 0
-  IsAccepted (check name) outside = (m : Model) × HoldsModel o (outside.file name) m
-  IsAccepted (eval name text) outside = (file : List ℕ) × (m : Model) × (p : Process) × Holds (outside.file name) file × AreEvaluated file text m p
+  IsAccepted (check name) x = (m : Model) × HoldsModel o (x.file name) m
+  IsAccepted (eval name text) x = HasGraph name text x
+  IsAccepted (compile name text) x = HasGraph name text x
+  IsAccepted (run name) x = (c : Code) × HoldsProgram o (x.file name) c
+  IsAccepted (graph name text) x = HasGraph name text x
+  IsAccepted (sample seed legs) x = Unit {0}
 
-  -- nothing is refused, and there is a diagram
+  -- nothing is refused, and there is a diagram or a flow
   abbrev pub ReadsEvents : Command → Outside → Type 0
-  ReadsEvents (check name) outside = ⊥
-  ReadsEvents (eval name text) outside =
-      (file : List ℕ) × (m : Model) × (p : Process) × Holds (outside.file name) file × AreEvaluated file text m p × HasDiagram (scattering_of m p)
+  ReadsEvents (eval name text) x =
+      (m : Model) × (p : Process) × (g : Graph) × HoldsModel o (x.file name) m × SaysProcess m text p × IsGraphOf m p g × HasDiagram (scattering_of m p)
+  ReadsEvents (run name) x = (c : Code) × HoldsProgram o (x.file name) c × (c.flows ≢ [])
+  ReadsEvents command x = ⊥
 
 module _ {E : Type 0} (o : Ops E) (show : E → List ℕ) where
   -- the usage line comes exactly where the words have the form of no command
   abbrev pub UsageCause : Type 0
-  UsageCause = (command : Option Command) (outside : Outside) (e : Ending) → Ran o show command outside e → (status_of e ≡ 2) ↔ (command ≡ None)
+  UsageCause = (command : Option Command) (x : Outside) (e : Ending) → Ran o show command x e → (status_of e ≡ 2) ↔ (command ≡ None)
 
   -- where the file is told and didn't fail, and memory didn't run out, a model is refused exactly where the file is to be
   abbrev pub ModelCause : Type 0
-  ModelCause = (command : Command) (outside : Outside) (e : Ending) (file : List ℕ) → Ran o show (Some command) outside e
-      → (outside.file (model_name command)).before ≡ Some file → ¬ Failed (outside.file (model_name command)) → e ≢ ending.NoMemory
-      → (status_of e ≡ 3) ↔ RefusesModel o command file
+  ModelCause = (command : Command) (x : Outside) (e : Ending) (name file : List ℕ) → Ran o show (Some command) x e → model_name command ≡ Some name
+      → (x.file name).before ≡ Some file → ¬ Failed (x.file name) → e ≢ ending.NoMemory → (status_of e ≡ 3) ↔ RefusesModel o file
 
   -- with a model, a process is refused exactly where the text is to be
   abbrev pub ProcessCause : Type 0
-  ProcessCause = (outside : Outside) (e : Ending) (name text file : List ℕ) (m : Model) → Ran o show (Some (eval name text)) outside e
-      → (outside.file name).before ≡ Some file → ¬ Failed (outside.file name) → e ≢ ending.NoMemory
-      → IsModelFile o file m → HasColourlessScalars m → (status_of e ≡ 4) ↔ RefusesProcess m text
+  ProcessCause = (command : Command) (x : Outside) (e : Ending) (name text file : List ℕ) (m : Model) → Ran o show (Some command) x e
+      → model_name command ≡ Some name → process_text command ≡ Some text → (x.file name).before ≡ Some file → ¬ Failed (x.file name)
+      → e ≢ ending.NoMemory → IsModelFile o file m → (status_of e ≡ 4) ↔ RefusesProcess m text
 
-  -- with a process too, where the input is told and nothing failed, the events are refused exactly where there is a diagram and
-  -- the input isn't one event
-  abbrev pub EventsCause : Type 0
-  EventsCause = (outside : Outside) (e : Ending) (name text file input : List ℕ) (m : Model) (p : Process) → Ran o show (Some (eval name text)) outside e
-      → (outside.file name).before ≡ Some file → AreEvaluated o file text m p → outside.input.before ≡ Some input
-      → ¬ Failed (outside.file name) → ¬ Failed outside.input → ¬ Failed outside.out → e ≢ ending.NoMemory
-      → (status_of e ≡ 6) ↔ (HasDiagram (scattering_of m p) × IsNoEvent o (length p.legs) input)
+  -- with a process too, it is too large exactly where its possible graph is
+  abbrev pub SizeCause : Type 0
+  SizeCause = (command : Command) (x : Outside) (e : Ending) (name text file : List ℕ) (m : Model) (p : Process) → Ran o show (Some command) x e
+      → model_name command ≡ Some name → process_text command ≡ Some text → (x.file name).before ≡ Some file → ¬ Failed (x.file name)
+      → e ≢ ending.NoMemory → IsModelFile o file m → SaysProcess m text p → (status_of e ≡ 9) ↔ IsTooLarge m p
 
-  -- A fault comes only where its object's count rose: one of the output only where nothing is refused before, and one of the
-  -- input only where there is a diagram too.
-  abbrev pub FaultCauses : Type 0
-  FaultCauses = (command : Command) (outside : Outside) (e : Ending) → Ran o show (Some command) outside e
-      → (e ≡ ending.FileFault → Failed (outside.file (model_name command)))
-      × (e ≡ ending.InputFault → Failed outside.input × ReadsEvents o command outside)
-      × (e ≡ ending.OutFault → Failed outside.out × IsAccepted o command outside)
+  -- a program is refused exactly where its file is to be
+  abbrev pub ProgramCause : Type 0
+  ProgramCause = (x : Outside) (e : Ending) (name file : List ℕ) → Ran o show (Some (run name)) x e → (x.file name).before ≡ Some file
+      → ¬ Failed (x.file name) → e ≢ ending.NoMemory → (status_of e ≡ 5) ↔ RefusesProgram o file
+
+  -- with a graph and a diagram, where the input is told and nothing failed, events are refused exactly where the input isn't events
+  -- and nothing more; without a diagram they never are
+  pub record EventsCause : Type 0 where
+    pub some : (x : Outside) (e : Ending) (name text file input : List ℕ) (m : Model) (p : Process) → Ran o show (Some (eval name text)) x e
+        → (x.file name).before ≡ Some file → AreAccepted o file text m p → HasDiagram (scattering_of m p) → x.input.before ≡ Some input
+        → ¬ Failed (x.file name) → ¬ Failed x.input → ¬ Failed x.out → e ≢ ending.NoMemory
+        → (status_of e ≡ 6) ↔ RefusesEvents o (process_kinds o show m p) input
+    pub none : (x : Outside) (e : Ending) (name text file : List ℕ) (m : Model) (p : Process) → Ran o show (Some (eval name text)) x e
+        → (x.file name).before ≡ Some file → AreAccepted o file text m p → ¬ HasDiagram (scattering_of m p) → ¬ Failed (x.file name) → status_of e ≢ 6
+
+  -- the same with a program, by its flows
+  pub record ProgramEventsCause : Type 0 where
+    pub some : (x : Outside) (e : Ending) (name file input : List ℕ) (c : Code) → Ran o show (Some (run name)) x e → (x.file name).before ≡ Some file
+        → IsProgramFile o file c → c.flows ≢ [] → x.input.before ≡ Some input → ¬ Failed (x.file name) → ¬ Failed x.input → ¬ Failed x.out
+        → e ≢ ending.NoMemory → (status_of e ≡ 6) ↔ RefusesEvents o (kinds_of c.model.particles c.legs) input
+    pub none : (x : Outside) (e : Ending) (name file : List ℕ) (c : Code) → Ran o show (Some (run name)) x e → (x.file name).before ≡ Some file
+        → IsProgramFile o file c → c.flows ≡ [] → ¬ Failed (x.file name) → status_of e ≢ 6
+
+  -- A fault comes only where the count of its object rose: one of the file only in a command that reads one, one of the output only
+  -- where nothing is refused before, and one of the input only where there is a diagram or a flow too.
+  pub record FaultCauses (command : Command) (x : Outside) (e : Ending) : Type 0 where
+    pub file : e ≡ ending.FileFault → (name : List ℕ) × (file_name command ≡ Some name) × Failed (x.file name)
+    pub input : e ≡ ending.InputFault → Failed x.input × ReadsEvents o command x
+    pub out : e ≡ ending.OutFault → Failed x.out × IsAccepted o command x
+
+  abbrev pub FaultsHaveCauses : Type 0
+  FaultsHaveCauses = (command : Command) (x : Outside) (e : Ending) → Ran o show (Some command) x e → FaultCauses command x e
 
   -- after a refusal that comes before the input, a fault of the file or want of memory nothing was read and nothing written
   abbrev pub QuietEndings : Type 0
-  QuietEndings = (command : Option Command) (outside : Outside) (e : Ending) → Ran o show command outside e → is_quiet e ≡ true → IsQuiet outside
+  QuietEndings = (command : Option Command) (x : Outside) (e : Ending) → Ran o show command x e → is_quiet e ≡ true → IsQuiet x
 
-  -- after a refusal of the events or a fault of the input nothing was written
-  abbrev pub SilentEndings : Type 0
-  SilentEndings = (command : Option Command) (outside : Outside) (e : Ending) → Ran o show command outside e → is_silent e ≡ true → IsUntouched outside.out
-
-  -- `check` leaves the input, and ends with one of these statuses
-  abbrev pub CheckEndings : Type 0
-  CheckEndings = (name : List ℕ) (outside : Outside) (e : Ending) → Ran o show (Some (check name)) outside e
-      → IsUntouched outside.input × In (status_of e) (0 ∷ 3 ∷ 7 ∷ 8 ∷ 10 ∷ [])
+  -- a command ends with one of its statuses
+  abbrev pub CommandEndings : Type 0
+  CommandEndings = (command : Command) (x : Outside) (e : Ending) → Ran o show (Some command) x e → In (status_of e) (statuses_of command)

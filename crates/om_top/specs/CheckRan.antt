@@ -2,9 +2,8 @@
 use Rattle.std.specs.Prelude.{ℕ, ◌++◌, codes, decimal, length, List}
 use Rattle.om_ring.specs.Ops.{Ops}
 use Rattle.om_model.specs.declared.model.Model.{Model}
-use Rattle.om_top.specs.Outside.{Side, IsUntouched}
-use Rattle.om_top.specs.Stages.{Writes}
-use Rattle.om_top.specs.WithModel.{WithModel}
+use Rattle.om_top.specs.Outside.{Side, IsUntouched, Writes}
+use Rattle.om_top.specs.Refusals.{WithModel}
 use Rattle.om_top.specs.declared.ending.Ending.{Ending}
 
 -- the line of a model

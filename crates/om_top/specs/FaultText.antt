@@ -1,4 +1,4 @@
--- The texts of the faults of models and processes.
+-- The texts of the faults of models, processes, programs and inputs.
 use Rattle.std.specs.Prelude.{ℕ, codes, decimal, List, ◌++◌}
 use Rattle.om_ring.specs.declared.numeral.NumeralFault.{NumeralFault}
 use Rattle.om_ring.specs.declared.numeral.NumeralFault.TheVariants.{Empty, BadByte, TooBig, ZeroDen}
@@ -8,6 +8,17 @@ use Rattle.om_model.specs.declared.rules.ModelRule.{ModelRule}
 use Rattle.om_model.specs.declared.rules.ModelRule.TheVariants.{RepeatedName, BadPattern, NoInverse, NotSymmetric, Limit}
 use Rattle.om_model.specs.declared.rules.Table.{Table}
 use Rattle.om_model.specs.declared.rules.Table.TheVariants.{Top, Parameter, Particle, Vertex}
+use Rattle.om_asm.specs.declared.fault.AsmKind.{AsmKind}
+use Rattle.om_asm.specs.declared.fault.AsmKind.TheVariants as asm
+use Rattle.om_code.specs.declared.code.CodeKind.{CodeKind}
+use Rattle.om_code.specs.declared.code.CodeKind.TheVariants as code
+use Rattle.om_event.specs.declared.cause.Cause.{Cause}
+use Rattle.om_event.specs.declared.cause.Cause.TheVariants as cause
+use Rattle.om_event.specs.declared.limits.TheConstants.{MOST_EVENTS}
+use Rattle.om_top.specs.declared.faults.event.EventFault.{EventFault}
+use Rattle.om_top.specs.declared.faults.event.EventFault.TheVariants as events
+use Rattle.om_top.specs.declared.faults.program.ProgramFault.{ProgramFault}
+use Rattle.om_top.specs.declared.faults.program.ProgramFault.TheVariants as program
 use Rattle.om_modelfile.specs.declared.fault.ModelFault.{ModelFault}
 use Rattle.om_modelfile.specs.declared.fault.ModelFault.TheVariants.{NotToml, MissingKey, WrongKind, UnknownKey, BadNumber, BadName, UnknownName, TooMuch, Rule, Memory}
 
@@ -59,3 +70,40 @@ process_fault_text (process.Unknown place) = at_byte (codes "unknown name") plac
 process_fault_text (process.Legs count) = decimal count ++ codes " legs"
 process_fault_text (process.Edge place) = at_byte (codes "edge") place
 process_fault_text process.Memory = codes "Memory"
+
+abbrev pub asm_kind_name : AsmKind → List ℕ
+asm_kind_name asm.Grammar = codes "Grammar"
+asm_kind_name asm.Name = codes "Name"
+
+abbrev pub code_kind_name : CodeKind → List ℕ
+code_kind_name code.Row = codes "Row"
+code_kind_name code.Legs = codes "Legs"
+code_kind_name code.Flow = codes "Flow"
+code_kind_name code.Den = codes "Den"
+code_kind_name code.Number = codes "Number"
+code_kind_name code.Register = codes "Register"
+code_kind_name code.Fit = codes "Fit"
+code_kind_name code.Sets = codes "Sets"
+
+-- a line of a program and what is wrong with it
+abbrev pub at_line : ℕ → List ℕ → List ℕ
+at_line line name = codes "line " ++ decimal line ++ codes ": " ++ name
+
+-- what is wrong with a program
+abbrev pub program_fault_text : ProgramFault → List ℕ
+program_fault_text (program.Text line kind) = at_line line (asm_kind_name kind)
+program_fault_text (program.Rule line kind) = at_line line (code_kind_name kind)
+program_fault_text (program.NoInverse line) = at_line line (codes "NoInverse")
+
+abbrev pub event_cause_name : Cause → List ℕ
+event_cause_name cause.TooLong = codes "TooLong"
+event_cause_name cause.Count = codes "Count"
+event_cause_name cause.LegNumber = codes "LegNumber"
+event_cause_name cause.BadNumeral = codes "BadNumeral"
+event_cause_name cause.NoInverse = codes "NoInverse"
+event_cause_name cause.Cut = codes "Cut"
+
+-- what is wrong with an input
+abbrev pub event_fault_text : EventFault → List ℕ
+event_fault_text (events.Bad event line cause) = codes "event " ++ decimal event ++ codes " line " ++ decimal line ++ codes ": " ++ event_cause_name cause
+event_fault_text events.TooMany = codes "more than " ++ decimal MOST_EVENTS

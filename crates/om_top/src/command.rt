@@ -1,6 +1,11 @@
 //! What the words of a call ask for.
-ghost use Rattle.std.specs.Prelude.{map, string_bytes};
-ghost use Rattle.om_top.specs.Asked.{Asks};
+ghost use Rattle.std.specs.Prelude.{◌≡◌, map, string_bytes};
+ghost use Rattle.om_top.specs.Asked.{Asks, asked};
+ghost use Rattle.om_top.specs.Command.{command_of_file, command_of_two, sample_of};
+
+use om_legs::MOST_LEGS;
+use om_model::limits::FEWEST_LEGS;
+use om_ring::{read_decimal, read_decimal_below};
 
 /// A command with its words. Later commands are further variants.
 pub(crate) enum Command<'a> {
@@ -8,6 +13,14 @@ pub(crate) enum Command<'a> {
     Check(&'a str),
     /// Answers events: the name of the model's file and the text of the process.
     Eval(&'a str, &'a str),
+    /// Writes the program of a process: the name of the model's file and the text of the process.
+    Compile(&'a str, &'a str),
+    /// Answers events by a program: the name of its file.
+    Run(&'a str),
+    /// Writes the graph of a process: the name of the model's file and the text of the process.
+    Graph(&'a str, &'a str),
+    /// Evaluates a sample: its seed and its number of legs.
+    Sample(u64, u8),
     /// The words have the form of no command.
     Unknown,
 }
@@ -17,10 +30,51 @@ pub(crate) fn command_of(words: &[String]) -> Command<'_>
     ensures { Asks (map (λ w. string_bytes w) words.now) result }
 {
     match words {
-        [word, model] if word.as_str() == "check" => Command::Check(model.as_str()),
-        [word, model, process] if word.as_str() == "eval" => {
-            Command::Eval(model.as_str(), process.as_str())
-        }
+        [word, file] => command_of_file(word.as_str(), file.as_str()),
+        [word, first, second] => command_of_two(word.as_str(), first.as_str(), second.as_str()),
+        _ => Command::Unknown,
+    }
+}
+
+/// The command with the name of a file alone.
+fn command_of_file<'a>(word: &str, file: &'a str) -> Command<'a>
+    ensures { command_of_file word.now file.now ≡ asked result }
+{
+    if word == "check" {
+        Command::Check(file)
+    } else if word == "run" {
+        Command::Run(file)
+    } else {
+        Command::Unknown
+    }
+}
+
+/// The command with two words.
+fn command_of_two<'a>(word: &str, first: &'a str, second: &'a str) -> Command<'a>
+    ensures { command_of_two word.now first.now second.now ≡ asked result }
+{
+    if word == "eval" {
+        Command::Eval(first, second)
+    } else if word == "compile" {
+        Command::Compile(first, second)
+    } else if word == "graph" {
+        Command::Graph(first, second)
+    } else if word == "sample" {
+        sample_of(first.as_bytes(), second.as_bytes())
+    } else {
+        Command::Unknown
+    }
+}
+
+/// The sample of a seed and a number of legs.
+fn sample_of<'a>(seed: &[u8], legs: &[u8]) -> Command<'a>
+    ensures { sample_of seed.now legs.now ≡ asked result }
+{
+    match (
+        read_decimal(seed),
+        read_decimal_below(legs, u64::from(MOST_LEGS) + 1),
+    ) {
+        (Some(seed), Some(legs)) if legs >= FEWEST_LEGS as u64 => Command::Sample(seed, legs as u8),
         _ => Command::Unknown,
     }
 }

@@ -2,6 +2,7 @@
 ghost use Rattle.std.specs.Prelude.{◌≡◌};
 ghost use Rattle.om_top.specs.Message.{status_of};
 
+use crate::faults::{EventFault, ProgramFault};
 use om_model::ProcessFault;
 use om_modelfile::ModelFault;
 
@@ -16,15 +17,17 @@ pub enum Ending {
     ModelTooLong,
     /// The model's file is faulty, or its model breaks a rule. Want of memory is no such fault.
     ModelFault(ModelFault),
-    /// A particle of the model is no scalar of colour 1; the events of such models aren't evaluated so far.
-    ModelNotBuilt,
     /// The text is that of no process of the model. Want of memory is no such fault.
     ProcessFault(ProcessFault),
-    /// The process has more legs than are evaluated so far.
-    ProcessNotBuilt,
-    /// The input is not one event and nothing more.
-    EventsNotBuilt,
-    /// A read of the model's file failed.
+    /// The possible graph of the process has too many terms and keystone terms.
+    GraphTooLarge,
+    /// The program's file has more bytes than a program file may have.
+    ProgramTooLong,
+    /// The program's file is faulty, or its program breaks a rule.
+    ProgramFault(ProgramFault),
+    /// The input isn't events and nothing more.
+    EventFault(EventFault),
+    /// A read of the file failed.
     FileFault,
     /// A read of the input failed.
     InputFault,
@@ -41,11 +44,13 @@ pub(crate) fn status(ending: Ending) -> u8
     match ending {
         Ending::Done => 0,
         Ending::Usage => 2,
-        Ending::ModelTooLong | Ending::ModelFault(_) | Ending::ModelNotBuilt => 3,
-        Ending::ProcessFault(_) | Ending::ProcessNotBuilt => 4,
-        Ending::EventsNotBuilt => 6,
+        Ending::ModelTooLong | Ending::ModelFault(_) => 3,
+        Ending::ProcessFault(_) => 4,
+        Ending::ProgramTooLong | Ending::ProgramFault(_) => 5,
+        Ending::EventFault(_) => 6,
         Ending::FileFault | Ending::InputFault => 7,
         Ending::OutFault => 8,
+        Ending::GraphTooLarge => 9,
         Ending::NoMemory => 10,
     }
 }

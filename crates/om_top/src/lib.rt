@@ -1,38 +1,23 @@
 //! The top call: all that the program does, over what it is handed.
 #![tactic(auto)]
 
-mod answer;
 mod answer_text;
-mod check;
-mod combinations;
 mod command;
-mod cursor;
-mod diagrams;
-mod edge_name;
+mod commands;
 mod ending;
-mod eval;
-mod evaluate;
-mod event;
-mod event_text;
-mod fault_text;
-mod input;
-mod interactions;
+mod faults;
 pub mod laws;
-mod limits;
-mod listing;
-mod lists;
+mod load;
 mod message;
-mod model_file;
-mod named_edges;
-mod prepared;
-mod process;
+mod stream;
 mod top;
+mod words;
+mod write;
 
 pub use ending::Ending;
-pub use limits::{refuse_words, within_limits};
+pub use faults::{EventFault, ProgramFault};
 pub use top::run;
+pub use words::{refuse_words, within_limits};
 
-#[cfg(test)]
-mod evaluation_tests;
 #[cfg(test)]
 mod tests;

@@ -4,7 +4,8 @@ ghost use Rattle.om_top.specs.Message.{message_of, Told};
 ghost use Rattle.om_top.specs.Outside.{side};
 
 use crate::ending::Ending;
-use crate::fault_text::{push_model_fault, push_process_fault};
+use crate::faults::{push_event_fault, push_model_fault, push_process_fault, push_program_fault};
+use om_graph::MOST_TERMS;
 use om_io::{Sink, write_all};
 use om_ring::Line;
 
@@ -15,26 +16,48 @@ fn push_message(ending: Ending, line: &mut Line)
 {
     match ending {
         Ending::Done => {}
-        Ending::Usage => line.push(b"usage: omega check MODEL, eval MODEL PROCESS\n"),
+        Ending::Usage => push_usage(line),
         Ending::ModelTooLong => line.push(b"model: too long\n"),
         Ending::ModelFault(fault) => {
             line.push(b"model: ");
             push_model_fault(fault, line);
             line.push(b"\n");
         }
-        Ending::ModelNotBuilt => line.push(b"model: not built\n"),
         Ending::ProcessFault(fault) => {
             line.push(b"process: ");
             push_process_fault(fault, line);
             line.push(b"\n");
         }
-        Ending::ProcessNotBuilt => line.push(b"process: not built\n"),
-        Ending::EventsNotBuilt => line.push(b"events: not built\n"),
+        Ending::GraphTooLarge => {
+            line.push(b"too large: more than ");
+            line.push_number(MOST_TERMS as u64);
+            line.push(b" terms\n");
+        }
+        Ending::ProgramTooLong => line.push(b"program: too long\n"),
+        Ending::ProgramFault(fault) => {
+            line.push(b"program: ");
+            push_program_fault(fault, line);
+            line.push(b"\n");
+        }
+        Ending::EventFault(fault) => {
+            line.push(b"events: ");
+            push_event_fault(fault, line);
+            line.push(b"\n");
+        }
         Ending::FileFault => line.push(b"read fault: file\n"),
         Ending::InputFault => line.push(b"read fault: input\n"),
         Ending::OutFault => line.push(b"write fault\n"),
         Ending::NoMemory => line.push(b"want of memory\n"),
     }
+}
+
+/// Appends the usage line.
+fn push_usage(line: &mut Line)
+    requires { line.old ≡ [] }
+    ensures { line.new ≡ message_of Ending.Usage }
+{
+    line.push(b"usage: omega check MODEL, eval MODEL PROCESS, compile MODEL PROCESS, ");
+    line.push(b"run PROGRAM, graph MODEL PROCESS, sample SEED LEGS\n");
 }
 
 /// Writes the line of an ending to `err`. A fault here changes nothing.
