@@ -1,8 +1,9 @@
+pub mod EmittedAnswer
 pub mod Planning
 pub mod NodeCode
 pub mod GraphCode
 pub mod GraphWalk
 pub mod NodeContents
 pub mod EdgesAbove
+pub mod Counts
 pub mod Laws
-pub mod CodesVerified

@@ -5,3 +5,5 @@ pub mod CallBounds
 pub mod Values
 pub mod ProgramRuns
 pub mod Streams
+pub mod CodeAnswers
+pub mod StreamSteps
