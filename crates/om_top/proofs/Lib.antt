@@ -1,9 +1,14 @@
 pub mod Short
+pub mod Sampled
 pub mod Files
 pub mod ProgramLines
 pub mod CallBounds
 pub mod Values
 pub mod ProgramRuns
+pub mod SampleWords
 pub mod Streams
 pub mod CodeAnswers
 pub mod StreamSteps
+pub mod Refused
+pub mod EvalRuns
+pub mod AskedWords
