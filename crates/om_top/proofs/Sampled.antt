@@ -80,12 +80,17 @@ module _ {E : Type 0} (o : Ops E) (l : Laws o) where
 
     module _ (t : Table E) (same : SameTable o t (model_table o c.model)) where
       gives : (e : Incoming E) (x : Option E) → IsMadeFor c e → CodeGives o c t e x → ModelGives o sample_model (sample_process legs) e x
-      gives e None made (d, h) =
-          (edge_of_den d, evaluated_is_answer o l sample_model (sample_process legs) sample_model_formed (process_fits legs least most) is.graph is.is_graph.canonical c is.is_code t e
-          (subst (λ m. SameTable o t (model_table o m)) is.is_code.same_model same) made (Pole d.legs d.field) [] h)
-      gives e (Some x) made (vs, h, sum) =
-          (with_sums c.flows vs, evaluated_is_answer o l sample_model (sample_process legs) sample_model_formed (process_fits legs least most) is.graph is.is_graph.canonical c is.is_code t e
-          (subst (λ m. SameTable o t (model_table o m)) is.is_code.same_model same) made Values vs h, sum ∙ sum_of_flows o c.flows vs (sum_for_each_flow o c t e vs h.2))
+      gives e None made (d, h) = (
+        edge_of_den d,
+        evaluated_is_answer o l sample_model (sample_process legs) sample_model_formed (process_fits legs least most) is.graph is.is_graph.canonical c is.is_code t e
+            (subst (λ m. SameTable o t (model_table o m)) is.is_code.same_model same) made (Pole d.legs d.field) [] h,
+      )
+      gives e (Some x) made (vs, h, sum) = (
+        with_sums c.flows vs,
+        evaluated_is_answer o l sample_model (sample_process legs) sample_model_formed (process_fits legs least most) is.graph is.is_graph.canonical c is.is_code t e
+            (subst (λ m. SameTable o t (model_table o m)) is.is_code.same_model same) made Values vs h,
+        sum ∙ sum_of_flows o c.flows vs (sum_for_each_flow o c t e vs h.2),
+      )
 
       -- what the machine sums up to is what the diagrams sum up to
       pub sampled : (seed poles : ℕ) (total : E) → AddUpTo o (CodeGives o c t) (sample_event o seed (length c.legs)) SAMPLE_EVENTS poles total → IsSample o seed legs poles total

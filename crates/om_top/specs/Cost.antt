@@ -115,7 +115,6 @@ module _ {E : Type 0} (o : Ops E) where
   abbrev pub RunMayCall : Side → Side → ℕ → Type 0
   RunMayCall side input n = (file : List ℕ) × Holds side file × (more : ℕ) × RunMayAdd file input more × (n ≡ program_calls file + more)
 
-
   -- a command makes so many calls at most
   abbrev pub CommandMayCall : Command → Outside → ℕ → Type 0
   CommandMayCall (check name) x n = FileMayCall (x.file name) n

@@ -28,10 +28,9 @@ returns-clause-calls g c =
     let o = g.R.Ring.ops r in
     let l = laws_from (g.R.Ring.element r) o (g.met.R.Ring.known r) (g.met.R.Ring.laws r) in
     let code = c.in-Ok.machine.code in
-    let is = c.in-Ok.ensures.code in
-    (
+    let is = c.in-Ok.ensures.code in (
       rows_calls sample_model + SAMPLE_EVENTS * (part code + 8 * length code.legs),
       inr (code, is, refl),
       calls_within c.args.steps.now c.load_sample.new.steps c.sum_sample.new.steps (rows_calls sample_model) (part code) (length code.legs) (length code.flows) (g.R.Ring.cost r)
-      (has_one_flow o l c.args.legs c.requires.fewest c.requires.most code is) (has_some_legs o l c.args.legs c.requires.fewest c.requires.most code is) c.in-Ok.ensures.calls c.sum_sample.ensures.at_most,
+          (has_one_flow o l c.args.legs c.requires.fewest c.requires.most code is) (has_some_legs o l c.args.legs c.requires.fewest c.requires.most code is) c.in-Ok.ensures.calls c.sum_sample.ensures.at_most,
     )
