@@ -5,7 +5,7 @@ use Rattle.std.proofs.lemmas.List.{length-take, take-append-drop}
 use Rattle.om_code.specs.declared.code.Code.{Code}
 use Rattle.om_asm.specs.declared.fault.AsmKind.{AsmKind}
 use Rattle.om_asm.specs.declared.fault.AsmKind.TheVariants.{Grammar}
-use Rattle.om_program_text.specs.ProgramText.{Words}
+use Rattle.om_io.specs.Lines.{Words}
 use Rattle.om_asm.specs.Lines.{At}
 use Rattle.om_asm.specs.Rows.{BadLine, bad, place}
 use Rattle.om_asm.specs.Program.{program_at}

@@ -1,7 +1,8 @@
 -- The lines of flows: what is read is what stands there.
 use Rattle.std.proofs.Common.{◌≡◌, ℕ, List, ◌∷◌, codes, Some, sym, ap, ap₂, subst, ◌∙◌}
 use Rattle.om_colour.specs.declared.Flow.{Flow}
-use Rattle.om_program_text.specs.ProgramText.{Words, flow_words}
+use Rattle.om_io.specs.Lines.{Words}
+use Rattle.om_program_text.specs.ProgramText.{flow_words}
 use Rattle.om_asm.specs.Lines.{word_by, no_more}
 use Rattle.om_ring.specs.OptionSteps.{◌>>=◌}
 use Rattle.om_asm.specs.Flows.{flow_of, flow_line}

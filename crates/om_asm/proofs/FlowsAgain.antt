@@ -10,7 +10,7 @@ use Rattle.std.proofs.lemmas.Fmt.{decimal_nonempty}
 use Rattle.om_colour.specs.declared.Flow.{Flow}
 use Rattle.om_colour.specs.Texts.{flow_bytes, line_item, line_items, with_commas, items_text}
 use Rattle.om_colour.specs.declared.texts.Extent.TheVariants.{Diagram}
-use Rattle.om_program_text.specs.ProgramText.{Words}
+use Rattle.om_io.specs.Lines.{Words}
 use Rattle.om_asm.specs.Lines.{word_by, no_more}
 use Rattle.om_ring.specs.OptionSteps.{◌>>=◌}
 use Rattle.om_ring.specs.Spelt.{decimal_below}

@@ -1,21 +1,19 @@
 -- A text that is read is the text of its code.
-use Rattle.std.proofs.Common.{◌≡◌, ℕ, ◌<◌, eqb, Bool, true, false, cond, List, [], ◌∷◌, ◌++◌, length, map, codes, decimal, Result, Ok, Err, sym, ap, subst, ◌∙◌, arith}
+use Rattle.std.proofs.Common.{◌≡◌, ℕ, ◌<◌, eqb, Bool, true, false, cond, List, [], ◌∷◌, length, map, codes, decimal, Result, Ok, Err, sym, ap, subst, ◌∙◌, arith}
 use Rattle.std.specs.Prelude.{IfOk}
 use Rattle.om_code.specs.declared.code.Code.{Code}
 use Rattle.om_code.specs.declared.code.Instr.{Instr}
 use Rattle.om_code.specs.declared.code.Instr.TheVariants.{Load, Fuse, Prop, Key}
 use Rattle.om_code.specs.Plain.{IsPlain}
 use Rattle.om_asm.specs.declared.fault.AsmFault.{AsmFault}
-use Rattle.om_program_text.specs.ProgramText.{Words, lines_text, version_words, model_words, particle_words, vertex_words, leg_words, flow_words, den_words, slots_lines, instr_words, end_words, program_lines, program_text}
+use Rattle.om_io.specs.Lines.{Words, lines_text}
+use Rattle.om_program_text.specs.ProgramText.{particle_words, vertex_words, leg_words, flow_words, den_words, slots_lines, instr_words, program_lines, program_text}
 use Rattle.om_asm.specs.Lines.{At, lines_of}
 use Rattle.om_asm.specs.Rows.{GivesNothing, place}
 use Rattle.om_asm.specs.Program.{program_at, program_of}
 use Rattle.om_asm.proofs.LineSplits.{AreWhole, text_again}
 use Rattle.om_asm.proofs.ProgramLaws.{program_found}
-
-whole_append : (a b : List Words) → AreWhole a → AreWhole b → AreWhole (a ++ b)
-whole_append [] b p q = q
-whole_append (x ∷ xs) b p q = (p.0, whole_append xs b p.1 q)
+use Rattle.om_asm.proofs.AllLines.{all_lines}
 
 whole_map : {A : Type 0} (words : A → Words) (xs : List A) → ((x : A) → 0 < length (words x)) → AreWhole (map words xs)
 whole_map words [] h = tt
@@ -37,22 +35,16 @@ slots_whole version slots = by (eqb version 1)
 program_whole : (c : Code) → AreWhole (program_lines c)
 program_whole c =
     let ps = c.model.particles in
-    let a = version_words c.version ∷ model_words c.model.name ∷ map particle_words ps in
-    let vs = map (vertex_words ps) c.model.vertices in
-    let ls = map (leg_words ps) c.legs in
-    let fs = map flow_words c.flows in
-    let ds = map (den_words ps) c.dens in
-    let ss = slots_lines c.version c.slots in
-    let is = map (instr_words c.version) c.instrs in
-    let h : AreWhole a = (omega arith, (omega arith, whole_map particle_words ps (λ x. omega arith))) in
-    let e : AreWhole (end_words ∷ []) = (omega arith, tt) in
-    let v = whole_append a vs h (whole_map (vertex_words ps) c.model.vertices (λ x. omega arith)) in
-    let l = whole_append (a ++ vs) ls v (whole_map (leg_words ps) c.legs (λ x. omega arith)) in
-    let f = whole_append (a ++ vs ++ ls) fs l (whole_map flow_words c.flows (λ x. omega arith)) in
-    let d = whole_append (a ++ vs ++ ls ++ fs) ds f (whole_map (den_words ps) c.dens (λ x. omega arith)) in
-    let s = whole_append (a ++ vs ++ ls ++ fs ++ ds) ss d (slots_whole c.version c.slots) in
-    let i = whole_append (a ++ vs ++ ls ++ fs ++ ds ++ ss) is s (whole_map (instr_words c.version) c.instrs (instr_whole c.version)) in
-    whole_append (a ++ vs ++ ls ++ fs ++ ds ++ ss ++ is) (end_words ∷ []) i e
+    all_lines (λ (l : Words). 0 < length l) c (record {
+      head = (omega arith, (omega arith, whole_map particle_words ps (λ x. omega arith)));
+      vertices = whole_map (vertex_words ps) c.model.vertices (λ x. omega arith);
+      legs = whole_map (leg_words ps) c.legs (λ x. omega arith);
+      flows = whole_map flow_words c.flows (λ x. omega arith);
+      dens = whole_map (den_words ps) c.dens (λ x. omega arith);
+      slots = slots_whole c.version c.slots;
+      instrs = whole_map (instr_words c.version) c.instrs (instr_whole c.version);
+      last = omega arith;
+    })
 
 text_is : (text : List ℕ) (c : Code) → program_of text ≡ Ok c → IsPlain c × (text ≡ program_text c)
 text_is text c e =

@@ -7,8 +7,10 @@ use Rattle.om_code.specs.declared.code.Instr.{Instr}
 use Rattle.om_code.specs.declared.code.Instr.TheVariants.{Load, Fuse, Prop, Key}
 use Rattle.om_code.specs.Plain.{IsPlace, IsPlainInstr, IsPlainFuse, IsPlainKey, IsLoadSlot, part_of}
 use Rattle.om_asm.specs.declared.instr_line.Joint.{Joint}
-use Rattle.om_program_text.specs.ProgramText.{Words, instr_words, joint_words}
-use Rattle.om_program_text.specs.Words.{place_word}
+use Rattle.om_io.specs.Lines.{Words}
+use Rattle.om_model.specs.TermText.{term_words}
+use Rattle.om_program_text.specs.ProgramText.{instr_words}
+use Rattle.om_model.specs.TermText.{place_word}
 use Rattle.om_asm.specs.InRange.{InstrInRange}
 use Rattle.om_asm.specs.Lines.{word_by, no_more}
 use Rattle.om_ring.specs.OptionSteps.{◌>>=◌}
@@ -28,14 +30,14 @@ few_branches n h = grind (arith, nat_tests)
 many_branches : (n : ℕ) → 3 ≤ n → leb 3 n ≡ true
 many_branches n h = grind (arith, nat_tests)
 
-fuse_again : (slot : ℕ) (minus : Bool) (vertex choice : ℕ) (b : Branches) → IsPlainFuse slot vertex b.count b.nodes → choice < 256 → length b.nodes ≡ 4 → fuse_of (joint_words slot minus vertex choice b) ≡ Some (Fuse slot minus vertex choice b)
+fuse_again : (slot : ℕ) (minus : Bool) (vertex choice : ℕ) (b : Branches) → IsPlainFuse slot vertex b.count b.nodes → choice < 256 → length b.nodes ≡ 4 → fuse_of (term_words slot minus vertex choice b) ≡ Some (Fuse slot minus vertex choice b)
 unfolding fuse_of
 fuse_again slot minus vertex choice b h c l =
     let j = joint_again (a_joint slot minus vertex choice b) (record { to_place = h.to_place; vertex_place = h.vertex_place; choice = c; nodes = record { length_four = l; places = h.places } }) in
     ap (λ (o : Option Joint). o >>= λ k. cond (leb k.branches.count 3) (Some (Fuse k.to k.minus k.vertex k.choice k.branches)) None) j
     ∙ ap (λ t. cond t (Some (Fuse slot minus vertex choice b)) None) (few_branches b.count h.most)
 
-key_again : (flow : ℕ) (minus : Bool) (vertex choice : ℕ) (b : Branches) → IsPlainKey flow vertex b.count b.nodes → choice < 256 → length b.nodes ≡ 4 → key_of (joint_words flow minus vertex choice b) ≡ Some (Key flow minus vertex choice b)
+key_again : (flow : ℕ) (minus : Bool) (vertex choice : ℕ) (b : Branches) → IsPlainKey flow vertex b.count b.nodes → choice < 256 → length b.nodes ≡ 4 → key_of (term_words flow minus vertex choice b) ≡ Some (Key flow minus vertex choice b)
 unfolding key_of
 key_again flow minus vertex choice b h c l =
     let j = joint_again (a_joint flow minus vertex choice b) (record { to_place = h.flow_place; vertex_place = h.vertex_place; choice = c; nodes = record { length_four = l; places = h.places } }) in
@@ -73,7 +75,7 @@ loads_again version count (Key flow minus vertex choice branches) h = absurd (le
 
 steps_again : (version count : ℕ) (i : Instr) → IsReadable version 1 i → RowAgain (λ _ w. is_step w) step_row (instr_words version) count i
 steps_again version count (Load slot leg) h = absurd (let p = h.of_part in omega arith)
-steps_again version count (Fuse slot minus vertex choice branches) h = record { w = codes "fuse"; ws = joint_words slot minus vertex choice branches; line = refl; start = refl; says = ap formed (fuse_again slot minus vertex choice branches h.plain h.range.0 h.range.1) }
+steps_again version count (Fuse slot minus vertex choice branches) h = record { w = codes "fuse"; ws = term_words slot minus vertex choice branches; line = refl; start = refl; says = ap formed (fuse_again slot minus vertex choice branches h.plain h.range.0 h.range.1) }
 steps_again version count (Prop slot den) h = record { w = codes "prop"; ws = place_word slot ∷ place_word den ∷ []; line = refl; start = refl; says = ap formed (prop_again slot den h.plain.0 h.plain.1) }
 steps_again version count (Key flow minus vertex choice branches) h = absurd (let p = h.of_part in omega arith)
 
@@ -81,7 +83,7 @@ keys_again : (version count : ℕ) (i : Instr) → IsReadable version 2 i → Ro
 keys_again version count (Load slot leg) h = absurd (let p = h.of_part in omega arith)
 keys_again version count (Fuse slot minus vertex choice branches) h = absurd (let p = h.of_part in omega arith)
 keys_again version count (Prop slot den) h = absurd (let p = h.of_part in omega arith)
-keys_again version count (Key flow minus vertex choice branches) h = record { w = codes "key"; ws = joint_words flow minus vertex choice branches; line = refl; start = refl; says = ap formed (key_again flow minus vertex choice branches h.plain h.range.0 h.range.1) }
+keys_again version count (Key flow minus vertex choice branches) h = record { w = codes "key"; ws = term_words flow minus vertex choice branches; line = refl; start = refl; says = ap formed (key_again flow minus vertex choice branches h.plain h.range.0 h.range.1) }
 
 pub all_loads : (version count : ℕ) (is : List Instr) → AllByRecursion (IsReadable version 0) is → AllAgain (λ _ w. is_load w) (load_row version) (instr_words version) count is
 all_loads version count [] h = tt

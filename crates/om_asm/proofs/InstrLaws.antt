@@ -8,8 +8,10 @@ use Rattle.om_code.specs.declared.code.Instr.{Instr}
 use Rattle.om_code.specs.declared.code.Instr.TheVariants.{Load, Fuse, Prop, Key}
 use Rattle.om_code.specs.Plain.{IsPlace, IsPlainInstr, IsLoadSlot, part_of}
 use Rattle.om_asm.specs.declared.instr_line.Joint.{Joint}
-use Rattle.om_program_text.specs.ProgramText.{Words, branch_words, joint_words, instr_words, load_words}
-use Rattle.om_program_text.specs.Words.{place_word, sign_word}
+use Rattle.om_io.specs.Lines.{Words}
+use Rattle.om_model.specs.TermText.{branch_words, term_words}
+use Rattle.om_program_text.specs.ProgramText.{instr_words, load_words}
+use Rattle.om_model.specs.TermText.{place_word, sign_word}
 use Rattle.om_asm.specs.InRange.{InstrInRange}
 use Rattle.om_asm.specs.Lines.{word_by, no_more}
 use Rattle.om_ring.specs.OptionSteps.{◌>>=◌}
@@ -130,7 +132,7 @@ pub record IsPlainJoint (j : Joint) : Type 0 where
   pub nodes : AreNodes j.branches
 
 abbrev words_of_joint : Joint → Words
-words_of_joint j = joint_words j.to j.minus j.vertex j.choice j.branches
+words_of_joint j = term_words j.to j.minus j.vertex j.choice j.branches
 
 abbrev a_joint : ℕ → Bool → ℕ → ℕ → Branches → Joint
 a_joint target minus vertex choice branches = record { to = target; minus = minus; vertex = vertex; choice = choice; branches = branches }

@@ -5,7 +5,8 @@ use Rattle.std.specs.Str.{bytes_eq}
 use Rattle.std.proofs.lemmas.List.{map-append}
 use Rattle.om_code.specs.declared.code.Instr.{Instr}
 use Rattle.om_code.specs.Plain.{IsPlainInstr, InParts, part_of}
-use Rattle.om_program_text.specs.ProgramText.{Words, instr_words}
+use Rattle.om_io.specs.Lines.{Words}
+use Rattle.om_program_text.specs.ProgramText.{instr_words}
 use Rattle.om_asm.specs.InRange.{InstrInRange}
 use Rattle.om_asm.specs.Lines.{At}
 use Rattle.om_asm.specs.Instrs.{load_of, fuse_of, prop_of, key_of}
@@ -14,6 +15,7 @@ use Rattle.om_ring.specs.ResultSteps.{◌>>=◌}
 use Rattle.om_asm.proofs.SpeltLemmas.{same_bytes}
 use Rattle.om_asm.proofs.InstrLaws.{load_found, fuse_found, prop_found, key_found}
 use Rattle.om_asm.proofs.RowLaws.{formed_ok, bind_ok, RowsFound, rows_found}
+use Rattle.om_asm.proofs.AllLines.{all_append}
 
 -- a plain instruction of a part, within its types
 abbrev pub IsOf : ℕ → ℕ → Instr → Type 0
@@ -55,10 +57,6 @@ plain_of version part (i ∷ is) h = (h.0.0, plain_of version part is h.1)
 within_of : (version part : ℕ) (is : List Instr) → AllByRecursion (IsOf version part) is → AllByRecursion InstrInRange is
 within_of version part [] h = tt
 within_of version part (i ∷ is) h = (h.0.2, within_of version part is h.1)
-
-all_append : {A : Type 0} (P : A → Type 0) (xs ys : List A) → AllByRecursion P xs → AllByRecursion P ys → AllByRecursion P (xs ++ ys)
-all_append P [] ys p q = q
-all_append P (x ∷ xs) ys p q = (p.0, all_append P xs ys p.1 q)
 
 parts_lower : (low part : ℕ) (is : List Instr) → low ≤ part → InParts part is → InParts low is
 unfolding InParts

@@ -5,7 +5,8 @@ use Rattle.std.proofs.lemmas.List.{map-append, length-append}
 use Rattle.om_code.specs.declared.code.Instr.{Instr}
 use Rattle.om_code.specs.declared.code.Instr.TheVariants.{Load, Fuse, Prop, Key}
 use Rattle.om_code.specs.Plain.{IsPlainInstr, InParts, part_of}
-use Rattle.om_program_text.specs.ProgramText.{Words, instr_words}
+use Rattle.om_io.specs.Lines.{Words}
+use Rattle.om_program_text.specs.ProgramText.{instr_words}
 use Rattle.om_asm.specs.InRange.{InstrInRange}
 use Rattle.om_asm.specs.Lines.{At}
 use Rattle.om_asm.specs.Rows.{BadLine, place, rows_from, behind, is_load, is_step, is_key, load_row, step_row, key_row, instrs_at}

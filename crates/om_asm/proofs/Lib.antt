@@ -1,3 +1,4 @@
+pub mod AllLines
 pub mod FewRows
 pub mod FirstFields
 pub mod FirstBadLine
@@ -18,7 +19,6 @@ pub mod ModelWords
 pub mod ModelWordsAgain
 pub mod LinesAgain
 pub mod NamedKinds
-pub mod NumeralsFit
 pub mod OneLine
 pub mod Outcomes
 pub mod ProgramAgain
@@ -29,7 +29,6 @@ pub mod ReadingLists
 pub mod ReadingRows
 pub mod Registers
 pub mod RowLaws
-pub mod SetsAgain
 pub mod SlotLaws
 pub mod SlotsAgain
 pub mod SpeltLemmas

@@ -3,7 +3,7 @@ use Rattle.std.proofs.Common.{◌≡◌, ℕ, ◌<◌, eqb, false, List, [], ◌
 use Rattle.std.specs.List.{slice_split, join_with_byte, AllByRecursion}
 use Rattle.std.proofs.lemmas.List.Elements.{All-from_recursion}
 use Rattle.std.proofs.lemmas.List.Splits.{slice_split_at, join_with_byte-slice_split, length-slice_split}
-use Rattle.om_program_text.specs.ProgramText.{Words, line_text, lines_text}
+use Rattle.om_io.specs.Lines.{Words, line_text, lines_text}
 use Rattle.om_asm.specs.Lines.{words_of, lines_of, lines_of_parts}
 use Rattle.om_asm.proofs.Visible.{IsVisible, Without, split_join, visible_without}
 

@@ -8,26 +8,30 @@ use Rattle.om_model.specs.Words.{spin_of_word}
 use Rattle.om_model.specs.FieldNames.{field_named}
 use Rattle.om_model.specs.declared.model.Particle.{Particle}
 use Rattle.om_code.specs.declared.code.Den.{Den}
-use Rattle.om_code.specs.Plain.{IsNamed, IsPlainDen, IsPlainParticle}
+use Rattle.om_code.specs.Plain.{IsNamed, IsPlainDen}
 use Rattle.om_model.specs.FieldNames.{field_name}
 use Rattle.om_asm.specs.declared.fault.AsmKind.{AsmKind}
 use Rattle.om_asm.specs.declared.fault.AsmKind.TheVariants.{Grammar}
-use Rattle.om_program_text.specs.ProgramText.{Words, leg_words, den_words, particle_words}
-use Rattle.om_program_text.specs.Words.{product_word, set_word}
+use Rattle.om_io.specs.Lines.{Words}
+use Rattle.om_program_text.specs.ProgramText.{leg_words, den_words, particle_words}
+use Rattle.om_program_text.specs.Words.{product_word}
+use Rattle.om_model.specs.LegSetText.{leg_set_word, leg_set_of_word}
 use Rattle.om_model.specs.Words.{spin_word, colour_word}
 use Rattle.om_asm.specs.Lines.{word_by, no_more, next_word}
 use Rattle.om_asm.specs.Rows.{formed}
 use Rattle.om_ring.specs.ResultSteps.{◌>>=◌}
-use Rattle.om_asm.specs.Reading.{name_of, product_of, set_of, known, named, leg_row, den_row, particle_row}
+use Rattle.om_asm.specs.Reading.{name_of, product_of, known, named, leg_row, den_row, particle_row}
 use Rattle.om_model.specs.Words.{colour_of_word}
 use Rattle.om_asm.specs.VertexSlots.{slot_of}
 use Rattle.om_asm.proofs.WordLaws.{bind_some}
 use Rattle.om_asm.proofs.RowLaws.{bind_ok, formed_ok}
 use Rattle.std.specs.List.{AllByRecursion}
 use Rattle.om_legs.specs.Legs.{IsLegSet}
-use Rattle.om_asm.specs.InRange.{NumeralFits, ParticleInRange}
+use Rattle.om_ring.specs.Numerals.{NumeralFits}
+use Rattle.om_asm.specs.InRange.{ParticleInRange}
 use Rattle.om_asm.specs.FirstBad.{IsName, IsReadableProduct}
 use Rattle.om_asm.proofs.ModelWords.{Spells, IsReadableSet, pick, spin_spells, colour_spells, name_spells, product_spells, set_spells, field_spells}
+use Rattle.om_model.specs.Rules.{HasLengths}
 
 module _ {B : Type 0} where
   pub some_word : (words : Words) (f : List ℕ × Words → Result B AsmKind) (y : B) → (formed (next_word words) >>= f) ≡ Ok y → (w : List ℕ) × (rest : Words) × (words ≡ w ∷ rest) × (f (w, rest) ≡ Ok y)
@@ -85,13 +89,13 @@ a_den set field = record { legs = set; field = field }
 pub den_found : (ps : List Particle) (words : Words) (d : Den) → den_row ps words ≡ Ok d → (codes "den" ∷ words ≡ den_words ps d) × IsPlainDen ps d × IsLegSet d.legs
 unfolding den_row
 den_found ps words d e =
-    let s = said set_of set_word IsReadableSet set_spells words (λ set. formed (next_word set.1) >>= λ name. formed (no_more name.1) >>= λ _. named ps name.0 >>= λ field. Ok (a_den set.0 field)) d e in
+    let s = said leg_set_of_word leg_set_word IsReadableSet set_spells words (λ set. formed (next_word set.1) >>= λ name. formed (no_more name.1) >>= λ _. named ps name.0 >>= λ field. Ok (a_den set.0 field)) d e in
     let a = some_word s.1 (λ name. formed (no_more name.1) >>= λ _. named ps name.0 >>= λ field. Ok (a_den s.0 field)) d s.4 in
     let n = none_left a.1 (λ _. named ps a.0 >>= λ field. Ok (a_den s.0 field)) d a.3 in
     let b = bind_ok (named ps a.0) (λ field. Ok (a_den s.0 field)) d n.1 in
     let l = named_ok (is_name a.0) ps a.0 b.0 b.1 in
     let same : a_den s.0 b.0 ≡ d = let h = b.2 in cc in
-    let whole = ap (λ (ws : Words). codes "den" ∷ ws) (s.2 ∙ ap (λ (ws : Words). set_word s.0 ∷ ws) (a.2 ∙ ap₂ (λ (v : List ℕ) (vs : Words). v ∷ vs) (sym l.0) n.0)) in
+    let whole = ap (λ (ws : Words). codes "den" ∷ ws) (s.2 ∙ ap (λ (ws : Words). leg_set_word s.0 ∷ ws) (a.2 ∙ ap₂ (λ (v : List ℕ) (vs : Words). v ∷ vs) (sym l.0) n.0)) in
     subst (λ (z : Den). (codes "den" ∷ words ≡ den_words ps z) × IsPlainDen ps z × IsLegSet z.legs) same (whole, record { legs = s.3.0; field = l.1 }, s.3.1)
 
 -- ---- particles
@@ -131,7 +135,7 @@ colour_read n a s m w r words p e =
 record ProductsRead (n a : List ℕ) (s : Spin) (words : Words) (p : Particle) : Type 0 where
   particle : p ≡ a_particle n a s p.mass p.width p.norm p.colour
   texts : words ≡ product_word p.mass ∷ product_word p.width ∷ product_word p.norm ∷ colour_word p.colour ∷ []
-  plain : IsPlainParticle p
+  plain : HasLengths p
   mass : AllByRecursion NumeralFits p.mass
   width : AllByRecursion NumeralFits p.width
   norm : AllByRecursion NumeralFits p.norm
@@ -143,7 +147,7 @@ by_products n a s m w r c p words rest0 rest1 rest2 same hm hw hr e f g h =
     (record {
       particle = refl;
       texts = e ∙ ap (λ (ws : Words). product_word m ∷ ws) (f ∙ ap (λ (ws : Words). product_word w ∷ ws) (g ∙ ap (λ (ws : Words). product_word r ∷ ws) h));
-      plain = record { mass = hm.0; width = hw.0; norm = hr.0 };
+      plain = (hm.0, hw.0, hr.0);
       mass = hm.1;
       width = hw.1;
       norm = hr.1;
@@ -157,7 +161,7 @@ products_read n a s words p e =
     let c = colour_read n a s m.0 w.0 r.0 r.1 p r.4 in
     by_products n a s m.0 w.0 r.0 p.colour p words m.1 w.1 r.1 c.particle m.3 w.3 r.3 m.2 w.2 r.2 c.texts
 
-by_names : (n a : List ℕ) (s : Spin) (p : Particle) (words rest0 rest1 rest2 : Words) → IsName n → IsName a → words ≡ n ∷ rest0 → rest0 ≡ a ∷ rest1 → rest1 ≡ spin_word s ∷ rest2 → ProductsRead n a s rest2 p → (codes "particle" ∷ words ≡ particle_words p) × IsPlainParticle p × ParticleInRange p
+by_names : (n a : List ℕ) (s : Spin) (p : Particle) (words rest0 rest1 rest2 : Words) → IsName n → IsName a → words ≡ n ∷ rest0 → rest0 ≡ a ∷ rest1 → rest1 ≡ spin_word s ∷ rest2 → ProductsRead n a s rest2 p → (codes "particle" ∷ words ≡ particle_words p) × HasLengths p × ParticleInRange p
 by_names n a s p words rest0 rest1 rest2 hn ha e f g h =
     let line : words ≡ n ∷ a ∷ spin_word s ∷ product_word p.mass ∷ product_word p.width ∷ product_word p.norm ∷ colour_word p.colour ∷ [] =
     e ∙ ap (λ (ws : Words). n ∷ ws) (f ∙ ap (λ (ws : Words). a ∷ ws) (g ∙ ap (λ (ws : Words). spin_word s ∷ ws) h.texts)) in
@@ -166,7 +170,7 @@ by_names n a s p words rest0 rest1 rest2 hn ha e f g h =
     let anti : a ≡ p.anti = sym (ap (λ (q : Particle). q.anti) h.particle) in
     (ap (λ (ws : Words). codes "particle" ∷ ws) line ∙ names, h.plain, record { name = subst IsName name hn; anti = subst IsName anti ha; mass = h.mass; width = h.width; norm = h.norm })
 
-pub particle_found : (words : Words) (p : Particle) → particle_row words ≡ Ok p → (codes "particle" ∷ words ≡ particle_words p) × IsPlainParticle p × ParticleInRange p
+pub particle_found : (words : Words) (p : Particle) → particle_row words ≡ Ok p → (codes "particle" ∷ words ≡ particle_words p) × HasLengths p × ParticleInRange p
 unfolding particle_row
 particle_found words p e =
     let n = said name_of (λ n. n) IsName name_spells words (λ n. from_anti n.0 n.1) p e in

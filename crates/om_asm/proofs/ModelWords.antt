@@ -1,5 +1,5 @@
 -- Words of models: what is read is what is spelled.
-use Rattle.std.proofs.Common.{◌≡◌, ℕ, zero, suc, ◌+◌, ◌-◌, ◌*◌, ◌/◌, ◌%◌, ◌<◌, ◌≤◌, ◌⊎◌, eqb, ltb, Bool, true, false, cond, List, [], ◌∷◌, length, map, codes, decimal, Option, Some, None, Result, Ok, Err, refl, sym, ap, ap₂, subst, ◌∙◌, arith, inl, inr}
+use Rattle.std.proofs.Common.{◌≡◌, ℕ, zero, suc, ◌+◌, ◌-◌, ◌*◌, ◌/◌, ◌%◌, ◌<◌, ◌≤◌, ◌⊎◌, eqb, ltb, Bool, true, false, cond, List, [], ◌∷◌, length, map, codes, decimal, Option, Some, None, Result, Ok, Err, refl, sym, ap, ap₂, subst, ◌∙◌, arith, inl, inr, option_map}
 use Rattle.std.specs.Prelude.{slice_get, slice_set}
 use Rattle.std.specs.List.{AllByRecursion, slice_split, join_with_byte}
 use Rattle.std.specs.Str.{bytes_eq}
@@ -11,8 +11,7 @@ use Rattle.om_ring.specs.declared.numeral.Numeral.{Numeral}
 use Rattle.om_ring.specs.declared.numeral.NumeralFault.{NumeralFault}
 use Rattle.om_ring.specs.Numerals.{numeral_text}
 use Rattle.om_ring.specs.NumeralOf.{numeral_of}
-use Rattle.om_legs.specs.Legs.{IsLegSet, legs_of, holds, union, set_of_one}
-use Rattle.om_legs.proofs.Operations.{IsLegSet-union}
+use Rattle.om_legs.specs.Legs.{IsLegSet, legs_of, holds}
 use Rattle.om_colour.specs.declared.Flow.{Flow}
 use Rattle.om_colour.specs.Texts.{flow_bytes}
 use Rattle.om_model.specs.Name.{is_name}
@@ -21,22 +20,24 @@ use Rattle.om_model.specs.FieldNames.{field_named, field_from}
 use Rattle.om_model.specs.declared.model.Particle.{Particle}
 use Rattle.om_code.specs.Plain.{IsNamed, IsPlainFlow}
 use Rattle.om_model.specs.FieldNames.{name_in, field_name}
-use Rattle.om_program_text.specs.ProgramText.{Words}
-use Rattle.om_program_text.specs.Words.{product_word, set_word}
+use Rattle.om_io.specs.Lines.{Words}
+use Rattle.om_program_text.specs.Words.{product_word}
+use Rattle.om_model.specs.LegSetText.{leg_set_word, leg_set_of_word, legs_among, legs_read, numbers_above}
 use Rattle.om_model.specs.Words.{spin_word, structure_word, colour_word}
 use Rattle.om_asm.specs.Lines.{word_by, no_more}
 use Rattle.om_ring.specs.OptionSteps.{◌>>=◌}
 use Rattle.om_ring.specs.Spelt.{decimal_below}
 use Rattle.om_asm.specs.Lists.{list_from}
-use Rattle.om_asm.specs.Reading.{name_of, canonical, factor_of, product_of, legs_from, spelled_set, set_of}
+use Rattle.om_asm.specs.Reading.{name_of, canonical, factor_of, product_of}
 use Rattle.om_model.specs.Words.{colour_of_word}
 use Rattle.om_asm.specs.Flows.{ends_of_line, ends_from, no_ends, flow_with, flow_of}
-use Rattle.om_asm.specs.InRange.{NumeralFits}
+use Rattle.om_ring.specs.Numerals.{NumeralFits}
 use Rattle.om_asm.specs.FirstBad.{IsName, IsReadableProduct}
 use Rattle.om_model.proofs.WordLaws.{words_are_read}
-use Rattle.om_asm.proofs.NumeralsFit.{numeral_fits}
+use Rattle.om_ring.proofs.NumeralsFit.{numeral_fits}
 use Rattle.om_asm.proofs.SpeltLemmas.{same_bytes, number_empty}
 use Rattle.om_asm.proofs.WordLaws.{bind_some, took, ended, number_law}
+use Rattle.om_model.proofs.LegSetLaws.{leg_sets_are_read}
 
 -- what is read is spelled by the word, and fits
 abbrev pub Spells : {A : Type 0} → (List ℕ → Option A) → (A → List ℕ) → (A → Type 0) → Type 0
@@ -109,47 +110,24 @@ product_spells w x e =
 
 -- ---- sets
 
-spelled_found : (w : List ℕ) (o : Option ℕ) (s : ℕ) → spelled_set w o ≡ Some s → (o ≡ Some s) × (set_word s ≡ w)
-spelled_found w None s e = absurd cc
-spelled_found w (Some t) s e = elim (pick (bytes_eq (set_word t) w) t None s e) [ inl p ↦ (ap Some p.1, ap set_word (sym p.1) ∙ same_bytes (set_word t) w p.0) | inr p ↦ absurd (let n = p.1 in cc) ]
-
-no_legs : set_word 0 ≡ []
+no_legs : leg_set_word 0 ≡ []
 unfolding legs_of holds
 no_legs = refl
 
-none_from : (set : ℕ) → decimal_below 13 [] ≡ None → legs_from set ([] ∷ []) ≡ None
-unfolding legs_from
-none_from set e = ap (λ (o : Option ℕ). elim o as (λ _. Option ℕ) [ None ↦ None | Some leg ↦ cond (eqb leg 0) None (legs_from (union set (set_of_one leg)) []) ]) e
-
-legs_within : (set : ℕ) (ws : Words) (s : ℕ) → IsLegSet set → legs_from set ws ≡ Some s → IsLegSet s
-unfolding legs_from
-legs_within set [] s h e = let same : set ≡ s = cc in subst IsLegSet same h
-legs_within set (w ∷ ws) s h e = by (decimal_below 13 w) (λ leg f. legs_within (union set (set_of_one leg)) ws s (IsLegSet-union set (set_of_one leg)) f) e
-  where
-    by_leg : (b : Bool) (o : Option ℕ) → (o ≡ Some s → IsLegSet s) → cond b None o ≡ Some s → IsLegSet s
-    by_leg true o k f = absurd cc
-    by_leg false o k f = k f
-
-    by : (o : Option ℕ) → ((leg : ℕ) → legs_from (union set (set_of_one leg)) ws ≡ Some s → IsLegSet s) → elim o as (λ _. Option ℕ) [ None ↦ None | Some leg ↦ cond (eqb leg 0) None (legs_from (union set (set_of_one leg)) ws) ] ≡ Some s → IsLegSet s
-    by None k f = absurd cc
-    by (Some leg) k f = by_leg (eqb leg 0) (legs_from (union set (set_of_one leg)) ws) (k leg) f
+no_set : leg_set_of_word [] ≡ None
+unfolding numbers_above
+no_set = ap (λ (o : Option ℕ). legs_among (option_map legs_read (elim o as (λ _. Option (List ℕ)) [ None ↦ None | Some k ↦ cond (ltb 0 k) (Some (k ∷ [])) None ]))) (number_empty [] 100 (omega arith) refl)
 
 -- a set that a text has
 abbrev pub IsReadableSet : ℕ → Type 0
 IsReadableSet s = (1 ≤ s) × IsLegSet s
 
-pub set_spells : Spells set_of set_word IsReadableSet
-set_spells w s e =
-    let f = spelled_found w (legs_from 0 (slice_split (λ b. eqb b 43) w)) s e in
-    (f.1, (by s f, legs_within 0 (slice_split (λ b. eqb b 43) w) s (omega arith) f.0))
+pub set_spells : Spells leg_set_of_word leg_set_word IsReadableSet
+set_spells w s e = let r = leg_sets_are_read.1 s w e in (sym r.1, (some s w r.1 e, r.0))
   where
-    by : (t : ℕ) → (legs_from 0 (slice_split (λ b. eqb b 43) w) ≡ Some t) × (set_word t ≡ w) → 1 ≤ t
-    by (suc t) g = omega arith
-    by zero g =
-        let empty : w ≡ [] = sym g.1 ∙ no_legs in
-        let refused = none_from 0 (number_empty [] 13 (omega arith) refl) in
-        let said : legs_from 0 ([] ∷ []) ≡ Some 0 = ap (λ v. legs_from 0 (slice_split (λ b. eqb b 43) v)) (sym empty) ∙ g.0 in
-        absurd cc
+    some : (s : ℕ) (v : List ℕ) → v ≡ leg_set_word s → leg_set_of_word v ≡ Some s → 1 ≤ s
+    some (suc t) v h f = omega arith
+    some zero v h f = absurd (let never = sym no_set ∙ ap leg_set_of_word (sym no_legs ∙ sym h) ∙ f in cc)
 
 -- ---- flows
 

@@ -3,7 +3,7 @@ use Rattle.std.proofs.Common.{◌≡◌, ℕ, ◌+◌, ◌^◌, ◌<◌, ◌≤�
 use Rattle.std.specs.List.{AllByRecursion}
 use Rattle.std.proofs.lemmas.Bool.{lt-ltb}
 use Rattle.om_ring.specs.declared.numeral.Numeral.{Numeral}
-use Rattle.om_ring.specs.Numerals.{numeral_text, sign_text, shown_den, mark_text}
+use Rattle.om_ring.specs.Numerals.{numeral_text, sign_text, shown_den, mark_text, NumeralFits}
 use Rattle.om_ring.proofs.NumeralTexts.{numeral_of-shown}
 use Rattle.om_lorentz.specs.declared.structures.Spin.{Spin}
 use Rattle.om_lorentz.specs.declared.structures.Structure.{Structure}
@@ -12,11 +12,11 @@ use Rattle.om_model.specs.Name.{is_name}
 use Rattle.om_model.specs.Words.{structure_of_word, spin_of_word}
 use Rattle.om_model.specs.FieldNames.{field_named}
 use Rattle.om_model.specs.declared.model.Particle.{Particle}
-use Rattle.om_code.specs.Plain.{IsNamed, IsProduct}
+use Rattle.om_code.specs.Plain.{IsNamed}
 use Rattle.om_model.specs.FieldNames.{field_name}
 use Rattle.om_model.proofs.WordLaws.{words_are_read}
 use Rattle.om_asm.specs.declared.fault.AsmKind.TheVariants.{Grammar}
-use Rattle.om_program_text.specs.ProgramText.{Words}
+use Rattle.om_io.specs.Lines.{Words}
 use Rattle.om_program_text.specs.Words.{product_word}
 use Rattle.om_model.specs.Words.{spin_word, structure_word, colour_word}
 use Rattle.om_ring.specs.OptionSteps.{◌>>=◌}
@@ -25,6 +25,10 @@ use Rattle.om_asm.specs.Reading.{name_of, canonical, factor_of, product_of, know
 use Rattle.om_model.specs.Words.{colour_of_word}
 use Rattle.om_asm.proofs.SpeltLemmas.{bytes_same}
 use Rattle.om_asm.proofs.Visible.{Without, split_join, decimal_without}
+use Rattle.om_legs.specs.Legs.{IsLegSet}
+use Rattle.om_model.specs.LegSetText.{leg_set_of_word, leg_set_word}
+use Rattle.om_model.proofs.LegSetLaws.{leg_sets_are_read}
+use Rattle.om_model.specs.Rules.{HasLength}
 
 pub name_again : (n : List ℕ) → is_name n ≡ true → name_of n ≡ Some n
 name_again n h = ap (λ b. cond b (Some n) None) h
@@ -32,16 +36,16 @@ name_again n h = ap (λ b. cond b (Some n) None) h
 pub spin_again : (s : Spin) → spin_of_word (spin_word s) ≡ Some s
 spin_again s = (words_are_read.1 s (spin_word s)).1 refl
 
+pub set_again : (set : ℕ) → IsLegSet set → 1 ≤ set → leg_set_of_word (leg_set_word set) ≡ Some set
+set_again set is some = leg_sets_are_read.0 set is some
+
 pub structure_again : (s : Structure) → structure_of_word (structure_word s) ≡ Some s
 structure_again s = (words_are_read.0 s (structure_word s)).1 refl
 
 pub colour_again : (c : Colour) → colour_of_word (colour_word c) ≡ Some c
 colour_again c = (words_are_read.2 c (colour_word c)).1 refl
 
-abbrev pub Fits : Numeral → Type 0
-Fits x = (x.num < 2 ^ 64) × (x.den < 2 ^ 64)
-
-pub factor_again : (x : Numeral) → Fits x → factor_of (numeral_text x) ≡ Some x
+pub factor_again : (x : Numeral) → NumeralFits x → factor_of (numeral_text x) ≡ Some x
 factor_again x h =
     ap (canonical (numeral_text x)) (numeral_of-shown x h.0 h.1)
     ∙ ap (λ b. cond b (Some x) None) (bytes_same (numeral_text x) (numeral_text x) refl)
@@ -79,21 +83,21 @@ den_without d h = by (eqb d 1)
     by true = tt
     by false = (refl, decimal_without 42 d h (omega arith))
 
-numeral_without : (x : Numeral) → Fits x → Without 42 (numeral_text x)
+numeral_without : (x : Numeral) → NumeralFits x → Without 42 (numeral_text x)
 numeral_without x h =
     without_both 42 (sign_text x.neg) (decimal x.num ++ (shown_den x.den ++ mark_text x.imag)) (sign_without x.neg)
     (without_both 42 (decimal x.num) (shown_den x.den ++ mark_text x.imag) (decimal_without 42 x.num h.0 (omega arith))
     (without_both 42 (shown_den x.den) (mark_text x.imag) (den_without x.den h.1) (mark_without x.imag)))
 
-numerals_without : (xs : List Numeral) → AllByRecursion Fits xs → AllByRecursion (Without 42) (map numeral_text xs)
+numerals_without : (xs : List Numeral) → AllByRecursion NumeralFits xs → AllByRecursion (Without 42) (map numeral_text xs)
 numerals_without [] h = tt
 numerals_without (x ∷ xs) h = (numeral_without x h.0, numerals_without xs h.1)
 
-pub product_again : (p : List Numeral) → IsProduct p → AllByRecursion Fits p → product_of (product_word p) ≡ Some p
+pub product_again : (p : List Numeral) → HasLength p → AllByRecursion NumeralFits p → product_of (product_word p) ≡ Some p
 product_again [] h f = absurd (let l = h.0 in omega arith)
 product_again (x ∷ xs) h f =
     ap (list_from factor_of 8 0) (split_join 42 (numeral_text x) (map numeral_text xs) (numeral_without x f.0) (numerals_without xs f.1))
-    ∙ list_again factor_of numeral_text Fits factor_again 8 0 (x ∷ xs) f (omega (arith, h.1))
+    ∙ list_again factor_of numeral_text NumeralFits factor_again 8 0 (x ∷ xs) f (omega (arith, h.1))
 
 pub named_again : (ps : List Particle) (f : ℕ) → is_name (field_name ps f) ≡ true → IsNamed ps f → named ps (field_name ps f) ≡ Ok f
 named_again ps f n h =

@@ -12,21 +12,22 @@ use Rattle.om_model.specs.FieldNames.{field_named}
 use Rattle.om_model.specs.declared.model.Particle.{Particle}
 use Rattle.om_asm.specs.declared.fault.AsmKind.{AsmKind}
 use Rattle.om_asm.specs.declared.fault.AsmKind.TheVariants.{Grammar, Name}
-use Rattle.om_program_text.specs.ProgramText.{Words}
-use Rattle.om_program_text.specs.Words.{product_word, set_word}
+use Rattle.om_io.specs.Lines.{Words}
+use Rattle.om_program_text.specs.Words.{product_word}
+use Rattle.om_model.specs.LegSetText.{leg_set_word, leg_set_of_word}
 use Rattle.om_model.specs.Words.{structure_word}
 use Rattle.om_asm.specs.Lines.{word_by, no_more, next_word}
 use Rattle.om_ring.specs.Spelt.{decimal_below}
 use Rattle.om_asm.specs.Rows.{formed}
 use Rattle.om_ring.specs.ResultSteps.{◌>>=◌}
-use Rattle.om_asm.specs.Reading.{name_of, product_of, set_of, known, named, leg_row, den_row, particle_row}
+use Rattle.om_asm.specs.Reading.{name_of, product_of, known, named, leg_row, den_row, particle_row}
 use Rattle.om_model.specs.Words.{colour_of_word}
 use Rattle.om_asm.specs.VertexSlots.{slot_of, fourth_slot, factors_of}
 use Rattle.om_asm.specs.Vertices.{vertex_row}
 use Rattle.om_asm.specs.FirstBad.{IsName, IsLegForm, IsDenForm, IsVertexForm, NamesFields}
 use Rattle.om_asm.proofs.WordLaws.{number_law}
 use Rattle.om_asm.proofs.ModelWords.{structure_spells, set_spells}
-use Rattle.om_asm.proofs.SetsAgain.{set_again}
+use Rattle.om_asm.proofs.ModelWordsAgain.{set_again}
 use Rattle.om_asm.proofs.LinesAgain.{say}
 use Rattle.om_asm.proofs.ModelLaws.{by_word, slot_found, a_particle, from_colour, from_norm, from_width, from_mass, from_spin, from_anti, a_den}
 use Rattle.om_asm.proofs.SlotLaws.{FourthWords, fourth_found, factors_found, AreFactors}
@@ -170,18 +171,18 @@ den_kind ps ws kind e = both_ways (den_row ps ws) kind (codes "den" ∷ ws) e fo
 
     forth : den_row ps ws ≡ Err Name → NamesFields (codes "den" ∷ ws)
     forth f =
-        let s = went_well (word_by set_of ws) (λ set. formed (next_word set.1) >>= λ name. formed (no_more name.1) >>= λ _. named ps name.0 >>= λ field. Ok (a_den set.0 field)) f in
+        let s = went_well (word_by leg_set_of_word ws) (λ set. formed (next_word set.1) >>= λ name. formed (no_more name.1) >>= λ _. named ps name.0 >>= λ field. Ok (a_den set.0 field)) f in
         let n = went_well (next_word s.0.1) (λ name. formed (no_more name.1) >>= λ _. named ps name.0 >>= λ field. Ok (a_den s.0.0 field)) s.2 in
         let m = went_well (no_more n.0.1) (λ _. named ps n.0.0 >>= λ field. Ok (a_den s.0.0 field)) n.2 in
-        let w = by_word set_of ws s.0 s.1 in
+        let w = by_word leg_set_of_word ws s.0 s.1 in
         let l = set_spells w.0 s.0.0 w.2 in
         let rest = next_is s.0.1 n.0 n.1 ∙ ap (λ (v : Words). n.0.0 ∷ v) (none_more n.0.1 m.0 m.1) in
-        let line = w.1 ∙ ap (λ (v : List ℕ). v ∷ s.0.1) (sym l.0) ∙ ap (λ (v : Words). set_word s.0.0 ∷ v) rest in
+        let line = w.1 ∙ ap (λ (v : List ℕ). v ∷ s.0.1) (sym l.0) ∙ ap (λ (v : Words). leg_set_word s.0.0 ∷ v) rest in
         inr (inr (record { set = s.0.0; name = n.0.0; some = l.1.0; legs = l.1.1; named = name_only (is_name n.0.0) (field_named ps n.0.0) (unknown s.0.0 (named ps n.0.0) Name m.2); texts = ap (λ (v : Words). codes "den" ∷ v) line }))
 
-    one : (set : ℕ) (name : List ℕ) (k : AsmKind) → 1 ≤ set → IsLegSet set → IsName name → den_row ps (set_word set ∷ name ∷ []) ≡ Err k → k ≡ Name
+    one : (set : ℕ) (name : List ℕ) (k : AsmKind) → 1 ≤ set → IsLegSet set → IsName name → den_row ps (leg_set_word set ∷ name ∷ []) ≡ Err k → k ≡ Name
     one set name k some legs n f =
-        let read = say set_of (set_word set) set (name ∷ []) (λ set. formed (next_word set.1) >>= λ name. formed (no_more name.1) >>= λ _. named ps name.0 >>= λ field. Ok (a_den set.0 field)) (set_again set legs some) in
+        let read = say leg_set_of_word (leg_set_word set) set (name ∷ []) (λ set. formed (next_word set.1) >>= λ name. formed (no_more name.1) >>= λ _. named ps name.0 >>= λ field. Ok (a_den set.0 field)) (set_again set legs some) in
         named_kind ps name k n (unknown set (named ps name) k (sym read ∙ f))
 
     back : NamesFields (codes "den" ∷ ws) → (k : AsmKind) → den_row ps ws ≡ Err k → k ≡ Name

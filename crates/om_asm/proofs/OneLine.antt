@@ -1,6 +1,6 @@
 -- A line that stands at its place.
 use Rattle.std.proofs.Common.{◌≡◌, ℕ, List, [], ◌∷◌, drop, Option, Some, None, Ok, refl, sym, ap, ◌∙◌}
-use Rattle.om_program_text.specs.ProgramText.{Words}
+use Rattle.om_io.specs.Lines.{Words}
 use Rattle.om_asm.specs.Lines.{At, first_line, Advances}
 use Rattle.om_asm.specs.Heads.{keyed, end_of}
 use Rattle.om_asm.specs.Program.{one_line, line_or_bad}

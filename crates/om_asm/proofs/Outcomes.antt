@@ -4,7 +4,7 @@
 -- behind; which of these it does depends on the lines in front alone. Where it goes on, some more lines let it end.
 use Rattle.std.proofs.Common.{◌≡◌, ℕ, ◌+◌, ◌<◌, ◌≤◌, List, [], ◌++◌, length, Result, Ok, Err, refl, sym, ap, subst, ◌∙◌, arith, append_assoc}
 use Rattle.std.proofs.lemmas.List.{length-append}
-use Rattle.om_program_text.specs.ProgramText.{Words}
+use Rattle.om_io.specs.Lines.{Words}
 use Rattle.om_asm.specs.Lines.{At}
 use Rattle.om_asm.specs.Rows.{BadLine, place}
 use Rattle.om_ring.specs.ResultSteps.{◌>>=◌}

@@ -10,10 +10,11 @@ use Rattle.om_model.specs.declared.model.Vertex.{Vertex}
 use Rattle.om_code.specs.declared.code.Den.{Den}
 use Rattle.om_code.specs.declared.code.Instr.{Instr}
 use Rattle.om_code.specs.declared.code.Code.{Code}
-use Rattle.om_code.specs.Plain.{IsPlain, IsPlainParticle, IsPlainVertex, IsNamed, IsPlainFlow, IsPlainDen, registers_named}
+use Rattle.om_code.specs.Plain.{IsPlain, IsPlainVertex, IsNamed, IsPlainFlow, IsPlainDen, registers_named}
 use Rattle.om_asm.specs.declared.reader.Process.{Process}
 use Rattle.om_asm.specs.InRange.{ParticleInRange, VertexInRange, CodeInRange}
-use Rattle.om_program_text.specs.ProgramText.{Words, version_words, model_words, particle_words, vertex_words, leg_words, flow_words, den_words, slots_lines, instr_words, end_words, program_lines}
+use Rattle.om_io.specs.Lines.{Words}
+use Rattle.om_program_text.specs.ProgramText.{version_words, model_words, particle_words, vertex_words, leg_words, flow_words, den_words, slots_lines, instr_words, end_words, program_lines}
 use Rattle.om_asm.specs.Lines.{At}
 use Rattle.om_asm.specs.Heads.{version_of, model_name_of}
 use Rattle.om_asm.specs.Reading.{particle_row, leg_row, den_row}
@@ -21,7 +22,7 @@ use Rattle.om_asm.specs.Vertices.{vertex_row}
 use Rattle.om_asm.specs.Flows.{flow_line}
 use Rattle.om_asm.specs.Rows.{BadLine, place, formed, instrs_at}
 use Rattle.om_ring.specs.ResultSteps.{◌>>=◌}
-use Rattle.om_asm.specs.Program.{one_line, rows_at, particles_at, slots_at, end_at, process_at, slots_number, program_at}
+use Rattle.om_asm.specs.Program.{rows_at, end_at, process_at, slots_number, program_at}
 use Rattle.om_asm.proofs.RowLaws.{AllAgain, rows_again, Stops}
 use Rattle.om_asm.proofs.LinesAgain.{particle_again, leg_again, den_again}
 use Rattle.om_asm.proofs.WordsAgain.{flow_line_again}
@@ -30,12 +31,15 @@ use Rattle.om_asm.proofs.VertexAgain.{vertex_again}
 use Rattle.om_asm.proofs.InstrsAgain.{instrs_again}
 use Rattle.om_asm.proofs.HeadsAgain.{version_again, model_again, line_again, slots_again, end_again, at_place, slots_read, next_number}
 use Rattle.om_asm.proofs.Stopping.{AvoidsLast, at_slots, at_dens, at_flows, at_legs, at_vertices}
+use Rattle.om_code.specs.declared.code.TheConstants.{MOST_PARTICLE_LINES}
+use Rattle.om_model.specs.Rules.{HasLengths}
+use Rattle.om_asm.proofs.ProgramLaws.{a_code, from_instrs, from_slots, from_process, from_vertices, from_particles, from_name}
 
 -- ---- each kind of rows
 
-all_particles : (count : ℕ) (ps : List Particle) → count + length ps ≤ 32768 → AllByRecursion ParticleInRange ps → AllByRecursion IsPlainParticle ps → AllAgain (λ k w. bytes_eq w (codes "particle") && ltb k 32768) (λ _ words. particle_row words) particle_words count ps
+all_particles : (count : ℕ) (ps : List Particle) → count + length ps ≤ MOST_PARTICLE_LINES → AllByRecursion ParticleInRange ps → AllByRecursion HasLengths ps → AllAgain (λ k w. bytes_eq w (codes "particle") && ltb k MOST_PARTICLE_LINES) (λ _ words. particle_row words) particle_words count ps
 all_particles count [] n h p = tt
-all_particles count (x ∷ xs) n h p = (record { w = codes "particle"; ws = _; line = refl; start = lt-ltb count 32768 (omega (arith, n)); says = particle_again x h.0 p.0 }, all_particles (count + 1) xs (omega (arith, n)) h.1 p.1)
+all_particles count (x ∷ xs) n h p = (record { w = codes "particle"; ws = _; line = refl; start = lt-ltb count MOST_PARTICLE_LINES (omega (arith, n)); says = particle_again x h.0 p.0 }, all_particles (count + 1) xs (omega (arith, n)) h.1 p.1)
 
 all_vertices : (ps : List Particle) (count : ℕ) (vs : List Vertex) → AllByRecursion ParticleInRange ps → AllByRecursion VertexInRange vs → AllByRecursion (IsPlainVertex ps) vs → AllAgain (λ _ w. bytes_eq w (codes "vertex")) (λ _ words. vertex_row ps words) (vertex_words ps) count vs
 all_vertices ps count [] h r p = tt
@@ -112,7 +116,7 @@ module _ (c : Code) where
   vertices_stop = at_legs (by_key (codes "vertex")) (λ _. refl) ps c.legs flow_lines (at_flows (by_key (codes "vertex")) (λ _. refl) c.flows den_lines (at_dens (by_key (codes "vertex")) (λ _. refl) ps c.dens slot_lines (at_slots (by_key (codes "vertex")) (avoids (codes "vertex") refl refl refl refl refl refl) c.version c.slots c.instrs)))
 
   abbrev few : ℕ → List ℕ → Bool
-  few count w = bytes_eq w (codes "particle") && ltb count 32768
+  few count w = bytes_eq w (codes "particle") && ltb count MOST_PARTICLE_LINES
 
   particles_stop : Stops few vertex_lines
   particles_stop = at_vertices few (λ _. refl) ps c.model.vertices leg_lines (at_legs few (λ _. refl) ps c.legs flow_lines (at_flows few (λ _. refl) c.flows den_lines (at_dens few (λ _. refl) ps c.dens slot_lines (at_slots few (record { loads = λ _. refl; fuses = λ _. refl; props = λ _. refl; keys = λ _. refl; ends = λ _. refl; slots = λ _. refl }) c.version c.slots c.instrs))))
@@ -132,35 +136,6 @@ module _ (c : Code) where
       ap (λ (r : Result (List ℕ × At) BadLine). r >>= λ legs. rows_at (codes "flow") (λ words. formed (flow_line words)) legs.1 >>= λ flows. rows_at (codes "den") (den_row ps) flows.1 >>= λ dens. at_place (a_process legs.0 flows.0 dens.0) dens.1.number dens.1.lines) l
       ∙ ap (λ (r : Result (List Flow × At) BadLine). r >>= λ flows. rows_at (codes "den") (den_row ps) flows.1 >>= λ dens. at_place (a_process c.legs flows.0 dens.0) dens.1.number dens.1.lines) f
       ∙ ap (λ (r : Result (List Den × At) BadLine). r >>= λ dens. at_place (a_process c.legs c.flows dens.0) dens.1.number dens.1.lines) d
-
-  abbrev a_code : ℕ → List ℕ → List Particle → List Vertex → Process → ℕ → List Instr → Result Code BadLine
-  a_code version name particles vs p slots is = Ok (record {
-    version = version;
-    model = record { name = name; particles = particles; vertices = vs };
-    legs = p.legs;
-    flows = p.flows;
-    dens = p.dens;
-    slots = slots_number version slots is;
-    instrs = is;
-  })
-
-  abbrev from_instrs : ℕ → List ℕ → List Particle → List Vertex → Process → ℕ → At → Result Code BadLine
-  from_instrs version name particles vs p slots a = instrs_at version a >>= λ is. end_at is.1 >>= λ _. a_code version name particles vs p slots is.0
-
-  abbrev from_slots : ℕ → List ℕ → List Particle → List Vertex → Process → At → Result Code BadLine
-  from_slots version name particles vs p a = slots_at version a >>= λ s. from_instrs version name particles vs p s.0 s.1
-
-  abbrev from_process : ℕ → List ℕ → List Particle → List Vertex → At → Result Code BadLine
-  from_process version name particles vs a = process_at particles a >>= λ p. from_slots version name particles vs p.0 p.1
-
-  abbrev from_vertices : ℕ → List ℕ → List Particle → At → Result Code BadLine
-  from_vertices version name particles a = rows_at (codes "vertex") (vertex_row particles) a >>= λ vs. from_process version name particles vs.0 vs.1
-
-  abbrev from_particles : ℕ → List ℕ → At → Result Code BadLine
-  from_particles version name a = particles_at a >>= λ particles. from_vertices version name particles.0 particles.1
-
-  abbrev from_name : ℕ → At → Result Code BadLine
-  from_name version a = one_line model_name_of a >>= λ n. from_particles version n.0 n.1
 
   ends_stop : (number : ℕ) → instrs_at c.version (place number instr_lines) ≡ instrs_at c.version (place number instr_lines)
   ends_stop number = refl
@@ -186,8 +161,8 @@ module _ (c : Code) where
       let i = instrs_again c.version next c.instrs last_lines plain.parts plain.instrs range.instrs (refl, (refl, refl)) in
       let e = end_again (next + length c.instrs) in
       ap (λ (r : Result (ℕ × At) BadLine). r >>= λ s. from_instrs c.version c.model.name ps c.model.vertices the_process s.0 s.1) s
-      ∙ ap (λ (r : Result (List Instr × At) BadLine). r >>= λ is. end_at is.1 >>= λ _. a_code c.version c.model.name ps c.model.vertices the_process (slots_read c.version c.slots) is.0) i
-      ∙ ap (λ (r : Result (Unit {0}) BadLine). r >>= λ _. a_code c.version c.model.name ps c.model.vertices the_process (slots_read c.version c.slots) c.instrs) e
+      ∙ ap (λ (r : Result (List Instr × At) BadLine). r >>= λ is. end_at is.1 >>= λ _. Ok (a_code c.version c.model.name ps c.model.vertices the_process (slots_read c.version c.slots) is.0)) i
+      ∙ ap (λ (r : Result (Unit {0}) BadLine). r >>= λ _. Ok (a_code c.version c.model.name ps c.model.vertices the_process (slots_read c.version c.slots) c.instrs)) e
       ∙ ap (λ k. let d : Code = record c { slots = k } in Ok d) (slots_same plain)
 
   program_right : (plain : IsPlain c) (range : CodeInRange c) → program_at (place 1 all_of_it) ≡ Ok c

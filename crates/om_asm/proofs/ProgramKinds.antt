@@ -7,7 +7,7 @@ use Rattle.om_code.specs.declared.code.Instr.{Instr}
 use Rattle.om_code.specs.declared.code.Code.{Code}
 use Rattle.om_asm.specs.declared.fault.AsmKind.{AsmKind}
 use Rattle.om_asm.specs.declared.fault.AsmKind.TheVariants.{Grammar, Name}
-use Rattle.om_program_text.specs.ProgramText.{Words}
+use Rattle.om_io.specs.Lines.{Words}
 use Rattle.om_asm.specs.Lines.{At, first_line}
 use Rattle.om_ring.specs.Spelt.{decimal_below}
 use Rattle.om_asm.specs.Heads.{version_word, version_of, model_name_of, slots_of, end_of}
@@ -27,6 +27,7 @@ use Rattle.om_asm.proofs.NamedKinds.{KindIs, NamesKey, NeverName, formed_never, 
 use Rattle.om_asm.proofs.KindInPlace.{Stands, Judged, Judges, IsGroup, then_judges, made_judges, rows_judge, line_judges, end_judges, skipped, form_group}
 use Rattle.om_asm.proofs.GroupOutcomes.{from_steps}
 use Rattle.om_asm.proofs.ProgramOutcomes.{up_to_end, with_end, from_instrs, from_slots, from_process, from_vertices, from_particles, from_name, from_dens, from_flows, finish, program_is}
+use Rattle.om_code.specs.declared.code.TheConstants.{MOST_PARTICLE_LINES}
 
 -- ---- the groups
 
@@ -94,10 +95,10 @@ both_true true b e = refl
 both_true false b e = cc
 
 abbrev few : ℕ → List ℕ → Bool
-few count w = bytes_eq w (codes "particle") && ltb count 32768
+few count w = bytes_eq w (codes "particle") && ltb count MOST_PARTICLE_LINES
 
 particles_group : IsGroup few (λ _ words. particle_row words) 1
-particles_group = never_group few (λ _ words. particle_row words) 1 (λ e. omega arith) (λ e. omega arith) (λ e. omega arith) (λ count w t. under_key w (codes "particle") (both_true (bytes_eq w (codes "particle")) (ltb count 32768) t)) (λ w ws. particle_never ws)
+particles_group = never_group few (λ _ words. particle_row words) 1 (λ e. omega arith) (λ e. omega arith) (λ e. omega arith) (λ count w t. under_key w (codes "particle") (both_true (bytes_eq w (codes "particle")) (ltb count MOST_PARTICLE_LINES) t)) (λ w ws. particle_never ws)
 
 flows_group : IsGroup (by_key (codes "flow")) (λ _ words. formed (flow_line words)) 4
 flows_group = never_group (by_key (codes "flow")) (λ _ words. formed (flow_line words)) 4 (λ e. omega arith) (λ e. omega arith) (λ e. omega arith) (λ count w t. under_key w (codes "flow") t) (λ w ws. formed_never (flow_line ws))

@@ -10,10 +10,11 @@ use Rattle.om_model.specs.declared.model.Vertex.{Vertex}
 use Rattle.om_code.specs.declared.code.Den.{Den}
 use Rattle.om_code.specs.declared.code.Instr.{Instr}
 use Rattle.om_code.specs.declared.code.Code.{Code}
-use Rattle.om_code.specs.Plain.{IsPlain, IsPlainParticle, IsPlainVertex, IsNamed, IsPlainFlow, IsPlainDen, IsPlainInstr, InParts, AreSlots}
+use Rattle.om_code.specs.Plain.{IsPlain, IsPlainVertex, IsNamed, IsPlainFlow, IsPlainDen, IsPlainInstr, InParts, AreSlots}
 use Rattle.om_asm.specs.declared.fault.AsmKind.TheVariants.{Grammar}
 use Rattle.om_asm.specs.declared.reader.Process.{Process}
-use Rattle.om_program_text.specs.ProgramText.{Words, version_words, model_words, particle_words, vertex_words, leg_words, flow_words, den_words, slots_lines, instr_words, end_words, program_lines}
+use Rattle.om_io.specs.Lines.{Words}
+use Rattle.om_program_text.specs.ProgramText.{version_words, model_words, particle_words, vertex_words, leg_words, flow_words, den_words, slots_lines, instr_words, end_words, program_lines}
 use Rattle.om_asm.specs.Lines.{At}
 use Rattle.om_asm.specs.Heads.{version_of, version_word, model_name_of, end_of}
 use Rattle.om_asm.specs.Reading.{name_of, particle_row, leg_row, den_row}
@@ -35,6 +36,8 @@ use Rattle.om_asm.proofs.HeadLaws.{version_found, name_found, end_found, line_fo
 use Rattle.om_asm.proofs.ModelLaws.{particle_found, leg_found, den_found}
 use Rattle.om_asm.proofs.FlowLaws.{flow_found}
 use Rattle.om_asm.proofs.VertexLaws.{vertex_found}
+use Rattle.om_code.specs.declared.code.TheConstants.{MOST_PARTICLE_LINES}
+use Rattle.om_model.specs.Rules.{HasLengths}
 
 -- ---- each kind of rows
 
@@ -47,7 +50,7 @@ both_true false b e = cc
 
 -- a row that has a text and is within its types
 abbrev ReadableParticle : Particle → Type 0
-ReadableParticle p = IsPlainParticle p × ParticleInRange p
+ReadableParticle p = HasLengths p × ParticleInRange p
 
 abbrev ReadableVertex : List Particle → Vertex → Type 0
 ReadableVertex ps v = IsPlainVertex ps v × VertexInRange v
@@ -55,8 +58,8 @@ ReadableVertex ps v = IsPlainVertex ps v × VertexInRange v
 abbrev ReadableDen : List Particle → Den → Type 0
 ReadableDen ps d = IsPlainDen ps d × IsLegSet d.legs
 
-particles_law : RowsFound (λ count w. bytes_eq w (codes "particle") && ltb count 32768) (λ _ words. particle_row words) particle_words ReadableParticle
-particles_law count w ws x s e = let f = particle_found ws x e in (under w (codes "particle") ws (particle_words x) (both_true (bytes_eq w (codes "particle")) (ltb count 32768) s) f.0, (f.1, f.2))
+particles_law : RowsFound (λ count w. bytes_eq w (codes "particle") && ltb count MOST_PARTICLE_LINES) (λ _ words. particle_row words) particle_words ReadableParticle
+particles_law count w ws x s e = let f = particle_found ws x e in (under w (codes "particle") ws (particle_words x) (both_true (bytes_eq w (codes "particle")) (ltb count MOST_PARTICLE_LINES) s) f.0, (f.1, f.2))
 
 vertices_law : (ps : List Particle) → RowsFound (λ _ w. bytes_eq w (codes "vertex")) (λ _ words. vertex_row ps words) (vertex_words ps) (ReadableVertex ps)
 vertices_law ps count w ws x s e = let f = vertex_found ps ws x e in (under w (codes "vertex") ws (vertex_words ps x) s f.0, (f.1, f.2))
@@ -127,10 +130,10 @@ a_code version name ps vs p slots is = record {
   instrs = is;
 }
 
-abbrev from_instrs : ℕ → List ℕ → List Particle → List Vertex → Process → ℕ → At → Result Code BadLine
+abbrev pub from_instrs : ℕ → List ℕ → List Particle → List Vertex → Process → ℕ → At → Result Code BadLine
 from_instrs version name ps vs p slots a = instrs_at version a >>= λ is. end_at is.1 >>= λ _. Ok (a_code version name ps vs p slots is.0)
 
-abbrev from_slots : ℕ → List ℕ → List Particle → List Vertex → Process → At → Result Code BadLine
+abbrev pub from_slots : ℕ → List ℕ → List Particle → List Vertex → Process → At → Result Code BadLine
 from_slots version name ps vs p a = slots_at version a >>= λ s. from_instrs version name ps vs p s.0 s.1
 
 abbrev ending : Bool → ℕ → Result (Unit {0}) BadLine
@@ -187,7 +190,7 @@ pub record ProgramRead (lines : List Words) (c : Code) : Type 0 where
   pub plain : IsPlain c
   pub range : CodeInRange c
 
-few_said : {A : Type 0} (xs : List A) (now : At) (r : Result (List A × At) BadLine) → IfOk r (λ x. 0 + length x.0 ≤ 32768) → r ≡ Ok (a_place xs now) → length xs ≤ 32768
+few_said : {A : Type 0} (xs : List A) (now : At) (r : Result (List A × At) BadLine) → IfOk r (λ x. 0 + length x.0 ≤ MOST_PARTICLE_LINES) → r ≡ Ok (a_place xs now) → length xs ≤ MOST_PARTICLE_LINES
 few_said {A} xs now (Ok y) f e = let same : y ≡ a_place xs now = cc in omega (arith, ap (λ (p : List A × At). length p.0) same, f)
 few_said xs now (Err d) f e = absurd cc
 
@@ -215,16 +218,16 @@ all_lines lines r0 r1 r2 r3 r4 v m ps vs lf ds si e a b c d f g =
 regroup : (a vs ls fs ds ss is e : List Words) → a ++ vs ++ ((ls ++ fs) ++ ds) ++ ((ss ++ is) ++ e) ≡ a ++ vs ++ ls ++ fs ++ ds ++ ss ++ is ++ e
 regroup a vs ls fs ds ss is e = simp append_assoc
 
-abbrev from_process : ℕ → List ℕ → List Particle → List Vertex → At → Result Code BadLine
+abbrev pub from_process : ℕ → List ℕ → List Particle → List Vertex → At → Result Code BadLine
 from_process version name ps vs a = process_at ps a >>= λ p. from_slots version name ps vs p.0 p.1
 
-abbrev from_vertices : ℕ → List ℕ → List Particle → At → Result Code BadLine
+abbrev pub from_vertices : ℕ → List ℕ → List Particle → At → Result Code BadLine
 from_vertices version name ps a = rows_at (codes "vertex") (vertex_row ps) a >>= λ vs. from_process version name ps vs.0 vs.1
 
-abbrev from_particles : ℕ → List ℕ → At → Result Code BadLine
+abbrev pub from_particles : ℕ → List ℕ → At → Result Code BadLine
 from_particles version name a = particles_at a >>= λ ps. from_vertices version name ps.0 ps.1
 
-abbrev from_name : ℕ → At → Result Code BadLine
+abbrev pub from_name : ℕ → At → Result Code BadLine
 from_name version a = one_line model_name_of a >>= λ n. from_particles version n.0 n.1
 
 abbrev two_versions : ℕ → Type 0
@@ -233,7 +236,7 @@ two_versions v = (v ≡ 1) ⊎ (v ≡ 2)
 by_code : (version : ℕ) (name : List ℕ) (ps : List Particle) (vs : List Vertex) (p : Process) (slots : ℕ) (is : List Instr) (lines r0 r1 r2 r3 r4 : List Words) → two_versions version
     → lines ≡ version_words version ∷ r0 → r0 ≡ model_words name ∷ r1 → r1 ≡ map particle_words ps ++ r2 → r2 ≡ map (vertex_words ps) vs ++ r3 → ProcessRead ps r3 p r4
     → r4 ≡ (slots_lines version slots ++ map (instr_words version) is) ++ end_words ∷ []
-    → is_name name ≡ true → AllByRecursion ReadableParticle ps → length ps ≤ 32768 → AllByRecursion (ReadableVertex ps) vs → IsSlotCount version slots → AllByRecursion (IsPlainInstr version) is → AllByRecursion InstrInRange is → InParts 0 is
+    → is_name name ≡ true → AllByRecursion ReadableParticle ps → length ps ≤ MOST_PARTICLE_LINES → AllByRecursion (ReadableVertex ps) vs → IsSlotCount version slots → AllByRecursion (IsPlainInstr version) is → AllByRecursion InstrInRange is → InParts 0 is
     → ProgramRead lines (a_code version name ps vs p slots is)
 by_code version name ps vs p slots is lines r0 r1 r2 r3 r4 two a b c d f g hn hp few hv hs hi hr order =
     let slot_lines = ap (λ (ls : List Words). (ls ++ map (instr_words version) is) ++ end_words ∷ []) (slot_lines_same version slots is) in
@@ -244,7 +247,7 @@ by_code version name ps vs p slots is lines r0 r1 r2 r3 r4 two a b c d f g hn hp
       plain = record {
         version = two;
         few_particles = few;
-        particles = firsts IsPlainParticle ParticleInRange ps hp;
+        particles = firsts HasLengths ParticleInRange ps hp;
         vertices = firsts (IsPlainVertex ps) VertexInRange vs hv;
         legs = f.legs;
         flows = firsts IsPlainFlow (λ w. length w.ends ≡ 12) p.flows f.flows;
@@ -255,7 +258,7 @@ by_code version name ps vs p slots is lines r0 r1 r2 r3 r4 two a b c d f g hn hp
       };
       range = record {
         name = hn;
-        particles = seconds IsPlainParticle ParticleInRange ps hp;
+        particles = seconds HasLengths ParticleInRange ps hp;
         vertices = seconds (IsPlainVertex ps) VertexInRange vs hv;
         flows = seconds IsPlainFlow (λ w. length w.ends ≡ 12) p.flows f.flows;
         dens = seconds (IsPlainDen ps) (λ d. IsLegSet d.legs) p.dens f.dens;
@@ -265,7 +268,7 @@ by_code version name ps vs p slots is lines r0 r1 r2 r3 r4 two a b c d f g hn hp
 
 by_model : (version : ℕ) (name : List ℕ) (ps : List Particle) (vs : List Vertex) (p : Process) (lines r0 r1 r2 r3 r4 : List Words) (c : Code) → two_versions version
     → lines ≡ version_words version ∷ r0 → r0 ≡ model_words name ∷ r1 → r1 ≡ map particle_words ps ++ r2 → r2 ≡ map (vertex_words ps) vs ++ r3 → ProcessRead ps r3 p r4 → TailRead version name ps vs p r4 c
-    → is_name name ≡ true → AllByRecursion ReadableParticle ps → length ps ≤ 32768 → AllByRecursion (ReadableVertex ps) vs → ProgramRead lines c
+    → is_name name ≡ true → AllByRecursion ReadableParticle ps → length ps ≤ MOST_PARTICLE_LINES → AllByRecursion (ReadableVertex ps) vs → ProgramRead lines c
 by_model version name ps vs p lines r0 r1 r2 r3 r4 c two a b d f g t hn hp few hv =
     subst (λ (q : Code). ProgramRead lines q) (sym t.code) (by_code version name ps vs p t.slots c.instrs lines r0 r1 r2 r3 r4 two a b d f g t.texts hn hp few hv t.count t.plain t.range t.order)
 
@@ -282,7 +285,7 @@ program_found a c e =
     let ln = line_found model_name_of n.0.0 v.0.1 n.0.1 (keyed_none (codes "model") name_of) n.1 in
     let fv = version_found lv.0 v.0.0 lv.2 in
     let fn = name_found ln.0 n.0.0 ln.2 in
-    let ps = rows_found (λ count u. bytes_eq u (codes "particle") && ltb count 32768) (λ _ words. particle_row words) particle_words ReadableParticle particles_law 0 n.0.1.number n.0.1.lines p.0.0 p.0.1 p.1 in
+    let ps = rows_found (λ count u. bytes_eq u (codes "particle") && ltb count MOST_PARTICLE_LINES) (λ _ words. particle_row words) particle_words ReadableParticle particles_law 0 n.0.1.number n.0.1.lines p.0.0 p.0.1 p.1 in
     let few = few_said p.0.0 p.0.1 (particles_at n.0.1) (few_rows (λ u. bytes_eq u (codes "particle")) (λ _ words. particle_row words) 0 n.0.1.number n.0.1.lines (omega arith)) p.1 in
     let vs = rows_found (λ _ u. bytes_eq u (codes "vertex")) (λ _ words. vertex_row p.0.0 words) (vertex_words p.0.0) (ReadableVertex p.0.0) (vertices_law p.0.0) 0 p.0.1.number p.0.1.lines w.0.0 w.0.1 w.1 in
     by_model v.0.0 n.0.0 p.0.0 w.0.0 q.0.0 a.lines v.0.1.lines n.0.1.lines p.0.1.lines w.0.1.lines q.0.1.lines c fv.1

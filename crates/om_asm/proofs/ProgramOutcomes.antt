@@ -7,7 +7,8 @@ use Rattle.om_model.specs.declared.model.Vertex.{Vertex}
 use Rattle.om_code.specs.declared.code.Code.{Code}
 use Rattle.om_asm.specs.declared.fault.AsmKind.TheVariants.{Grammar}
 use Rattle.om_asm.specs.declared.reader.Process.{Process}
-use Rattle.om_program_text.specs.ProgramText.{Words, version_words, model_words, end_words}
+use Rattle.om_io.specs.Lines.{Words}
+use Rattle.om_program_text.specs.ProgramText.{version_words, model_words, end_words}
 use Rattle.om_asm.specs.Lines.{At}
 use Rattle.om_asm.specs.Heads.{version_word, version_of, model_name_of, end_of}
 use Rattle.om_asm.specs.Reading.{name_of, particle_row, leg_row, den_row}
@@ -21,6 +22,7 @@ use Rattle.om_asm.proofs.HeadsAgain.{version_again, model_again, end_of_again, f
 use Rattle.om_asm.proofs.ProgramLaws.{a_process, a_code}
 use Rattle.om_asm.proofs.Outcomes.{Outcomes, made_of, one_by_one}
 use Rattle.om_asm.proofs.GroupOutcomes.{Ends, rows_outcome, line_outcome, slots_outcome, instrs_outcome}
+use Rattle.om_code.specs.declared.code.TheConstants.{MOST_PARTICLE_LINES}
 
 -- ---- the rows of a model and a process
 
@@ -28,7 +30,7 @@ abbrev by_key : List ℕ → ℕ → List ℕ → Bool
 by_key key _ w = bytes_eq w key
 
 abbrev few : ℕ → List ℕ → Bool
-few count w = bytes_eq w (codes "particle") && ltb count 32768
+few count w = bytes_eq w (codes "particle") && ltb count MOST_PARTICLE_LINES
 
 particles_outcome : Outcomes particles_at Ends Ends
 particles_outcome = rows_outcome few (λ _ words. particle_row words) (record { slots = λ _. refl; ends = λ _. refl }) 0

@@ -6,7 +6,7 @@ use Rattle.om_asm.specs.declared.fault.AsmFault.{AsmFault}
 use Rattle.om_asm.specs.declared.fault.AsmFault.TheVariants as faults
 use Rattle.om_asm.specs.declared.fault.LineFault.{LineFault}
 use Rattle.om_asm.specs.declared.fault.LineFault.TheVariants as line_faults
-use Rattle.om_program_text.specs.ProgramText.{Words}
+use Rattle.om_io.specs.Lines.{Words}
 use Rattle.om_asm.specs.Lines.{At, first_line, Advances}
 use Rattle.om_asm.specs.Rows.{BadLine, bad, place, rows_from, behind, Gives, IsAtLine, GivesMore}
 use Rattle.om_ring.specs.ResultSteps.{◌>>=◌}

@@ -2,7 +2,7 @@
 use Rattle.std.proofs.Common.{◌≡◌, ℕ, ◌+◌, Bool, true, false, cond, List, [], ◌∷◌, ◌++◌, length, map, Option, Some, None, Result, Ok, Err, refl, ap, ap₂, subst, ◌∙◌, arith}
 use Rattle.std.specs.List.{AllByRecursion}
 use Rattle.om_asm.specs.declared.fault.AsmKind.{AsmKind}
-use Rattle.om_program_text.specs.ProgramText.{Words}
+use Rattle.om_io.specs.Lines.{Words}
 use Rattle.om_asm.specs.Lines.{At}
 use Rattle.om_asm.specs.Rows.{BadLine, place, rows_from, at_line, formed}
 use Rattle.om_ring.specs.ResultSteps.{◌>>=◌}

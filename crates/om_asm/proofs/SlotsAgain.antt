@@ -7,7 +7,7 @@ use Rattle.om_ring.specs.declared.numeral.Numeral.{Numeral}
 use Rattle.om_model.specs.Name.{is_name}
 use Rattle.om_model.specs.FieldNames.{field_named}
 use Rattle.om_model.specs.declared.model.Particle.{Particle}
-use Rattle.om_program_text.specs.ProgramText.{Words}
+use Rattle.om_io.specs.Lines.{Words}
 use Rattle.om_program_text.specs.Words.{product_word}
 use Rattle.om_ring.specs.OptionSteps.{◌>>=◌}
 use Rattle.om_asm.specs.Reading.{product_of}

@@ -5,7 +5,7 @@ use Rattle.std.proofs.lemmas.Fmt.{decimal_injective}
 use Rattle.std.proofs.lemmas.Slice.Eq.{bytes_eq-Decides}
 use Rattle.om_ring.specs.Spelt.{decimal_below}
 use Rattle.om_ring.proofs.SpeltLemmas.{IsOneSpelling, spelt_some, spelt_none, spelt_found, decimal_read, decimal_absent, empty_is_no_decimal}
-use Rattle.om_program_text.specs.Words.{place_word}
+use Rattle.om_model.specs.TermText.{place_word}
 use Rattle.om_asm.specs.Spelt.{place_of}
 
 pub same_bytes : (xs ys : List ℕ) → bytes_eq xs ys ≡ true → xs ≡ ys

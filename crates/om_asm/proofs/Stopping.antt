@@ -6,7 +6,8 @@ use Rattle.om_model.specs.declared.model.Vertex.{Vertex}
 use Rattle.om_code.specs.declared.code.Den.{Den}
 use Rattle.om_code.specs.declared.code.Instr.{Instr}
 use Rattle.om_code.specs.declared.code.Instr.TheVariants.{Load, Fuse, Prop, Key}
-use Rattle.om_program_text.specs.ProgramText.{Words, vertex_words, leg_words, flow_words, den_words, slots_lines, instr_words, end_words}
+use Rattle.om_io.specs.Lines.{Words}
+use Rattle.om_program_text.specs.ProgramText.{vertex_words, leg_words, flow_words, den_words, slots_lines, instr_words, end_words}
 use Rattle.om_asm.proofs.RowLaws.{Stops}
 
 module _ (starts : ℕ → List ℕ → Bool) where

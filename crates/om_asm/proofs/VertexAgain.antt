@@ -8,11 +8,11 @@ use Rattle.om_model.specs.Words.{structure_of_word}
 use Rattle.om_model.specs.FieldNames.{field_named}
 use Rattle.om_model.specs.declared.model.Particle.{Particle}
 use Rattle.om_model.specs.declared.model.Vertex.{Vertex}
-use Rattle.om_code.specs.Plain.{IsNamed, IsProduct, IsPlainVertex}
+use Rattle.om_code.specs.Plain.{IsNamed, IsPlainVertex}
 use Rattle.om_model.specs.FieldNames.{field_name}
 use Rattle.om_asm.specs.declared.fault.AsmKind.{AsmKind}
 use Rattle.om_asm.specs.declared.fault.AsmKind.TheVariants.{Grammar, Name}
-use Rattle.om_program_text.specs.ProgramText.{Words}
+use Rattle.om_io.specs.Lines.{Words}
 use Rattle.om_program_text.specs.Words.{product_word}
 use Rattle.om_model.specs.Words.{structure_word}
 use Rattle.om_asm.specs.Lines.{word_by}
@@ -23,10 +23,12 @@ use Rattle.om_asm.specs.VertexSlots.{slot_of, fourth_slot, factors_of}
 use Rattle.om_asm.specs.Vertices.{known_fields, vertex_row}
 use Rattle.om_asm.proofs.WordLaws.{number_law}
 use Rattle.om_asm.specs.FirstBad.{IsName, IsReadableProduct}
-use Rattle.om_asm.proofs.ModelWordsAgain.{structure_again, Fits}
+use Rattle.om_asm.proofs.ModelWordsAgain.{structure_again}
 use Rattle.om_asm.specs.InRange.{ParticleInRange, VertexInRange}
 use Rattle.om_asm.proofs.LinesAgain.{say, means_field}
 use Rattle.om_asm.proofs.SlotsAgain.{no_fourth_again, fourth_said, factors_again}
+use Rattle.om_model.specs.Rules.{HasLength}
+use Rattle.om_ring.specs.Numerals.{NumeralFits}
 
 abbrev a_vertex : Structure → List ℕ → List (List Numeral) → ℕ → Result Vertex AsmKind
 a_vertex s fields factors o = Ok (record { structure = s; fields = fields; factors = factors; order = o })
@@ -125,7 +127,7 @@ are_names : (ps : List Particle) (fields : List ℕ) → AllByRecursion Particle
 are_names ps [] h n = tt
 are_names ps (f ∷ fs) h n = (means_field 0 ps (field_name ps f) f h n.0, are_names ps fs h n.1)
 
-both : (fs : List (List Numeral)) → AllByRecursion IsProduct fs → AllByRecursion (λ p. AllByRecursion Fits p) fs → AllByRecursion IsReadableProduct fs
+both : (fs : List (List Numeral)) → AllByRecursion HasLength fs → AllByRecursion (λ p. AllByRecursion NumeralFits p) fs → AllByRecursion IsReadableProduct fs
 both [] p f = tt
 both (x ∷ xs) p f = ((p.0, f.0), both xs p.1 f.1)
 

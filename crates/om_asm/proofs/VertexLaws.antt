@@ -5,10 +5,11 @@ use Rattle.om_lorentz.specs.declared.structures.Structure.{Structure}
 use Rattle.om_model.specs.Words.{structure_of_word}
 use Rattle.om_model.specs.declared.model.Particle.{Particle}
 use Rattle.om_model.specs.declared.model.Vertex.{Vertex}
-use Rattle.om_code.specs.Plain.{IsProduct, IsPlainVertex}
+use Rattle.om_code.specs.Plain.{IsPlainVertex}
 use Rattle.om_model.specs.FieldNames.{field_name}
 use Rattle.om_asm.specs.declared.fault.AsmKind.{AsmKind}
-use Rattle.om_program_text.specs.ProgramText.{Words, vertex_words}
+use Rattle.om_io.specs.Lines.{Words}
+use Rattle.om_program_text.specs.ProgramText.{vertex_words}
 use Rattle.om_program_text.specs.Words.{product_word}
 use Rattle.om_model.specs.Words.{structure_word}
 use Rattle.om_asm.specs.Lines.{word_by}
@@ -20,11 +21,13 @@ use Rattle.om_asm.specs.Vertices.{known_fields, vertex_row}
 use Rattle.om_asm.proofs.WordLaws.{number_law}
 use Rattle.om_asm.proofs.RowLaws.{bind_ok, formed_ok}
 use Rattle.std.specs.List.{AllByRecursion}
-use Rattle.om_asm.specs.InRange.{NumeralFits, VertexInRange}
+use Rattle.om_ring.specs.Numerals.{NumeralFits}
+use Rattle.om_asm.specs.InRange.{VertexInRange}
 use Rattle.om_asm.specs.FirstBad.{IsReadableProduct}
 use Rattle.om_asm.proofs.ModelWords.{structure_spells}
 use Rattle.om_asm.proofs.ModelLaws.{said, some_slot, ok_same, SlotWord}
 use Rattle.om_asm.proofs.SlotLaws.{fourth_found, factors_found, fields_found, AreFields, AreFactors}
+use Rattle.om_model.specs.Rules.{HasLength}
 
 abbrev a_vertex : Structure → List ℕ → List (List Numeral) → ℕ → Vertex
 a_vertex structure fields factors order = record { structure = structure; fields = fields; factors = factors; order = order }
@@ -50,7 +53,7 @@ record SlotsRead (ps : List Particle) (s : Structure) (o : ℕ) (words : Words) 
   plain : IsPlainVertex ps v
   factors : AllByRecursion (λ p. AllByRecursion NumeralFits p) v.factors
 
-products_plain : (ps : List (List Numeral)) → AllByRecursion IsReadableProduct ps → AllByRecursion IsProduct ps
+products_plain : (ps : List (List Numeral)) → AllByRecursion IsReadableProduct ps → AllByRecursion HasLength ps
 products_plain [] h = tt
 products_plain (p ∷ ps) h = (h.0.0, products_plain ps h.1)
 

@@ -1,5 +1,5 @@
 -- The lines of a code have words, and these are visible.
-use Rattle.std.proofs.Common.{◌≡◌, ℕ, ◌+◌, ◌-◌, ◌^◌, ◌<◌, ◌⊎◌, eqb, Bool, true, false, cond, List, [], ◌∷◌, ◌++◌, length, map, codes, decimal, Result, Ok, refl, sym, ap, subst, ◌∙◌, arith, inl, inr}
+use Rattle.std.proofs.Common.{◌≡◌, ℕ, ◌+◌, ◌-◌, ◌^◌, ◌<◌, ◌⊎◌, eqb, Bool, true, false, cond, List, [], ◌∷◌, length, map, codes, decimal, Result, Ok, refl, sym, ap, subst, ◌∙◌, arith, inl, inr}
 use Rattle.std.specs.List.{AllByRecursion}
 use Rattle.om_ring.specs.declared.numeral.Numeral.{Numeral}
 use Rattle.om_colour.specs.declared.Flow.{Flow}
@@ -12,9 +12,12 @@ use Rattle.om_code.specs.declared.code.Code.{Code}
 use Rattle.om_code.specs.Plain.{IsPlain, IsPlainVertex, IsPlainFlow, IsPlainDen, IsPlainInstr, IsNamed, registers_named}
 use Rattle.om_model.specs.FieldNames.{field_name}
 use Rattle.om_asm.specs.declared.fault.AsmFault.{AsmFault}
-use Rattle.om_asm.specs.InRange.{NumeralFits, ParticleInRange, VertexInRange, InstrInRange, CodeInRange}
-use Rattle.om_program_text.specs.ProgramText.{Words, version_words, model_words, particle_words, vertex_words, leg_words, flow_words, den_words, slots_lines, instr_words, end_words, program_lines, program_text}
-use Rattle.om_program_text.specs.Words.{product_word, place_word}
+use Rattle.om_ring.specs.Numerals.{NumeralFits}
+use Rattle.om_asm.specs.InRange.{ParticleInRange, VertexInRange, InstrInRange, CodeInRange}
+use Rattle.om_io.specs.Lines.{Words}
+use Rattle.om_program_text.specs.ProgramText.{version_words, particle_words, vertex_words, leg_words, flow_words, den_words, instr_words, program_lines, program_text}
+use Rattle.om_model.specs.TermText.{place_word}
+use Rattle.om_program_text.specs.Words.{product_word}
 use Rattle.om_asm.specs.Lines.{At, lines_of}
 use Rattle.om_asm.specs.Rows.{BadLine, GivesNothing, place}
 use Rattle.om_asm.specs.Program.{program_at}
@@ -23,17 +26,10 @@ use Rattle.om_asm.proofs.VisibleWords.{seen, name_visible, spin_visible, structu
 use Rattle.om_asm.proofs.LineSplits.{IsLine, lines_again}
 use Rattle.om_asm.proofs.LinesAgain.{means_field}
 use Rattle.om_asm.proofs.ProgramAgain.{program_again}
+use Rattle.om_asm.proofs.AllLines.{all_append, all_lines}
 
 abbrev AreLines : List Words → Type 0
 AreLines ls = AllByRecursion IsLine ls
-
-lines_append : (a b : List Words) → AreLines a → AreLines b → AreLines (a ++ b)
-lines_append [] b p q = q
-lines_append (x ∷ xs) b p q = (p.0, lines_append xs b p.1 q)
-
-words_append : (a b : Words) → AllByRecursion IsVisible a → AllByRecursion IsVisible b → AllByRecursion IsVisible (a ++ b)
-words_append [] b p q = q
-words_append (x ∷ xs) b p q = (p.0, words_append xs b p.1 q)
 
 field_visible : (ps : List Particle) (f : ℕ) → AllByRecursion ParticleInRange ps → IsNamed ps f → IsVisible (field_name ps f)
 field_visible ps f h n = name_visible (field_name ps f) (means_field 0 ps (field_name ps f) f h n)
@@ -50,7 +46,7 @@ particle_line : (p : Particle) → ParticleInRange p → IsLine (particle_words 
 particle_line p h = (seen (codes "particle") refl, (name_visible p.name h.name, (name_visible p.anti h.anti, (spin_visible p.spin, (product_visible p.mass h.mass, (product_visible p.width h.width, (product_visible p.norm h.norm, (colour_visible p.colour, tt))))))))
 
 vertex_line : (ps : List Particle) (v : Vertex) → AllByRecursion ParticleInRange ps → VertexInRange v → IsPlainVertex ps v → IsLine (vertex_words ps v)
-vertex_line ps v h r p = (seen (codes "vertex") refl, (structure_visible v.structure, (decimal_visible v.order (omega (arith, r.order)), words_append (map (field_name ps) v.fields) (codes ":" ∷ map product_word v.factors) (fields_visible ps v.fields h p.fields) (seen (codes ":") refl, products_visible v.factors r.factors))))
+vertex_line ps v h r p = (seen (codes "vertex") refl, (structure_visible v.structure, (decimal_visible v.order (omega (arith, r.order)), all_append IsVisible (map (field_name ps) v.fields) (codes ":" ∷ map product_word v.factors) (fields_visible ps v.fields h p.fields) (seen (codes ":") refl, products_visible v.factors r.factors))))
 
 load_line : (version slot leg : ℕ) (b : Bool) → leg < 256 → cond b (slot + 1 ≡ leg) (slot < 2 ^ 32 - 1) → IsLine (codes "load" ∷ cond b (decimal leg ∷ []) (place_word slot ∷ decimal leg ∷ []))
 load_line version slot leg true h s = (seen (codes "load") refl, (decimal_visible leg (omega arith), tt))
@@ -99,22 +95,16 @@ version_line v (inr e) = (seen (codes "omega") refl, (decimal_visible v (omega a
 program_visible : (c : Code) → IsPlain c → CodeInRange c → AreLines (program_lines c)
 program_visible c p r =
     let ps = c.model.particles in
-    let a = version_words c.version ∷ model_words c.model.name ∷ map particle_words ps in
-    let vs = map (vertex_words ps) c.model.vertices in
-    let ls = map (leg_words ps) c.legs in
-    let fs = map flow_words c.flows in
-    let ds = map (den_words ps) c.dens in
-    let ss = slots_lines c.version c.slots in
-    let is = map (instr_words c.version) c.instrs in
-    let h : AreLines a = (version_line c.version p.version, ((seen (codes "model") refl, (name_visible c.model.name r.name, tt)), particles_lines ps r.particles)) in
-    let e : AreLines (end_words ∷ []) = ((seen (codes "end") refl, tt), tt) in
-    let v = lines_append a vs h (vertices_lines ps c.model.vertices r.particles r.vertices p.vertices) in
-    let l = lines_append (a ++ vs) ls v (legs_lines ps c.legs r.particles p.legs) in
-    let f = lines_append (a ++ vs ++ ls) fs l (flows_lines c.flows r.flows p.flows) in
-    let d = lines_append (a ++ vs ++ ls ++ fs) ds f (dens_lines ps c.dens r.particles p.dens) in
-    let s = lines_append (a ++ vs ++ ls ++ fs ++ ds) ss d (slot_line c.slots c.instrs (eqb c.version 1) p.slots) in
-    let i = lines_append (a ++ vs ++ ls ++ fs ++ ds ++ ss) is s (instrs_lines c.version c.instrs p.instrs r.instrs) in
-    lines_append (a ++ vs ++ ls ++ fs ++ ds ++ ss ++ is) (end_words ∷ []) i e
+    all_lines IsLine c (record {
+      head = (version_line c.version p.version, ((seen (codes "model") refl, (name_visible c.model.name r.name, tt)), particles_lines ps r.particles));
+      vertices = vertices_lines ps c.model.vertices r.particles r.vertices p.vertices;
+      legs = legs_lines ps c.legs r.particles p.legs;
+      flows = flows_lines c.flows r.flows p.flows;
+      dens = dens_lines ps c.dens r.particles p.dens;
+      slots = slot_line c.slots c.instrs (eqb c.version 1) p.slots;
+      instrs = instrs_lines c.version c.instrs p.instrs r.instrs;
+      last = (seen (codes "end") refl, tt);
+    })
 
 -- the text of a plain code is read as the code
 pub code_again : (c : Code) → IsPlain c → CodeInRange c → program_at (place 1 (lines_of (program_text c))) ≡ Ok c

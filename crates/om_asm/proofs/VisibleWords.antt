@@ -14,10 +14,12 @@ use Rattle.om_colour.specs.declared.Flow.{Flow}
 use Rattle.om_colour.specs.Texts.{flow_bytes, items_text, line_items}
 use Rattle.om_colour.specs.declared.texts.Extent.TheVariants.{Diagram}
 use Rattle.om_model.specs.Name.{is_name, is_name_byte}
-use Rattle.om_program_text.specs.ProgramText.{Words}
-use Rattle.om_program_text.specs.Words.{place_word, sign_word, product_word, set_word}
+use Rattle.om_io.specs.Lines.{Words}
+use Rattle.om_model.specs.TermText.{place_word, sign_word}
+use Rattle.om_program_text.specs.Words.{product_word}
+use Rattle.om_model.specs.LegSetText.{leg_set_word}
 use Rattle.om_model.specs.Words.{spin_word, structure_word, colour_word}
-use Rattle.om_asm.specs.InRange.{NumeralFits}
+use Rattle.om_ring.specs.Numerals.{NumeralFits}
 use Rattle.om_legs.specs.Legs.{legs_of, every_leg, holds}
 use Rattle.om_asm.proofs.Visible.{IsVisible, visible_append, decimal_visible}
 
@@ -127,7 +129,7 @@ legs_small : (set : ℕ) → AllByRecursion (λ n. n < 2 ^ 64) (legs_of set)
 unfolding legs_of
 legs_small set = small_legs (holds set) every_leg (range_small 1 12 (omega arith))
 
-pub set_visible : (set : ℕ) → IsVisible (set_word set)
+pub set_visible : (set : ℕ) → IsVisible (leg_set_word set)
 set_visible set = join_visible 43 (map decimal (legs_of set)) (omega arith) (decimals_visible (legs_of set) (legs_small set))
 
 commas_visible : (xs : Words) → AllByRecursion IsVisible xs → IsVisible (flat_map (λ y. codes "," ++ y) xs)

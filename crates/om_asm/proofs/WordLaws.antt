@@ -3,8 +3,8 @@ use Rattle.std.proofs.Common.{◌≡◌, ℕ, ◌-◌, ◌^◌, ◌<◌, ◌≤�
 use Rattle.std.specs.Str.{bytes_eq}
 use Rattle.std.proofs.lemmas.Bool.Decides.{nat_tests}
 use Rattle.om_code.specs.Plain.{IsPlace}
-use Rattle.om_program_text.specs.ProgramText.{Words}
-use Rattle.om_program_text.specs.Words.{place_word, sign_word}
+use Rattle.om_io.specs.Lines.{Words}
+use Rattle.om_model.specs.TermText.{place_word, sign_word}
 use Rattle.om_asm.specs.Lines.{word_by, no_more}
 use Rattle.om_ring.specs.OptionSteps.{◌>>=◌}
 use Rattle.om_asm.specs.Spelt.{place_of, leg_of}

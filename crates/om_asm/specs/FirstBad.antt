@@ -7,13 +7,17 @@ use Rattle.om_legs.specs.Legs.{IsLegSet}
 use Rattle.om_lorentz.specs.declared.structures.Structure.{Structure}
 use Rattle.om_model.specs.Name.{is_name}
 use Rattle.om_code.specs.declared.code.Code.{Code}
-use Rattle.om_code.specs.Plain.{IsPlain, IsProduct}
-use Rattle.om_program_text.specs.ProgramText.{Words, program_lines}
-use Rattle.om_program_text.specs.Words.{product_word, set_word}
+use Rattle.om_code.specs.Plain.{IsPlain}
+use Rattle.om_io.specs.Lines.{Words}
+use Rattle.om_program_text.specs.ProgramText.{program_lines}
+use Rattle.om_program_text.specs.Words.{product_word}
+use Rattle.om_model.specs.LegSetText.{leg_set_word}
 use Rattle.om_model.specs.Words.{structure_word}
-use Rattle.om_asm.specs.InRange.{NumeralFits, CodeInRange}
+use Rattle.om_ring.specs.Numerals.{NumeralFits}
+use Rattle.om_asm.specs.InRange.{CodeInRange}
 use Rattle.om_asm.specs.declared.fault.AsmKind.{AsmKind}
 use Rattle.om_asm.specs.declared.fault.AsmKind.TheVariants.{Name}
+use Rattle.om_model.specs.Rules.{HasLength}
 
 -- the text of some code begins with these lines
 pub record BeginsProgram (lines : List Words) : Type 0 where
@@ -32,7 +36,7 @@ IsName w = is_name w ≡ true
 
 -- 1 to 8 numerals of 64 bits
 abbrev pub IsReadableProduct : List Numeral → Type 0
-IsReadableProduct p = IsProduct p × AllByRecursion NumeralFits p
+IsReadableProduct p = HasLength p × AllByRecursion NumeralFits p
 
 -- the words of a leg line with some name
 pub record IsLegForm (words : Words) : Type 0 where
@@ -47,7 +51,7 @@ pub record IsDenForm (words : Words) : Type 0 where
   pub some : 1 ≤ set
   pub legs : IsLegSet set
   pub named : IsName name
-  pub texts : words ≡ codes "den" ∷ set_word set ∷ name ∷ []
+  pub texts : words ≡ codes "den" ∷ leg_set_word set ∷ name ∷ []
 
 -- the words of a vertex line with some names
 pub record IsVertexForm (words : Words) : Type 0 where

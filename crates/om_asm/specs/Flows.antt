@@ -4,16 +4,16 @@ use Rattle.std.specs.Str.{bytes_eq}
 use Rattle.std.specs.List.{slice_split}
 use Rattle.om_colour.specs.declared.Flow.{Flow}
 use Rattle.om_colour.specs.Texts.{flow_bytes}
-use Rattle.om_program_text.specs.ProgramText.{Words}
+use Rattle.om_io.specs.Lines.{Words}
 use Rattle.om_asm.specs.Lines.{word_by, no_more}
 use Rattle.om_ring.specs.OptionSteps.{◌>>=◌}
-use Rattle.om_ring.specs.Spelt.{decimal_below}
+use Rattle.om_asm.specs.Spelt.{end_of}
 
 -- the legs at the start and at the end of a line
 unfoldable pub ends_of_line : Words → Option (ℕ × ℕ)
 ends_of_line words = do
-  start ← word_by (decimal_below 13) words
-  end ← word_by (decimal_below 13) start.1
+  start ← word_by end_of words
+  end ← word_by end_of start.1
   _ ← no_more end.1
   if start.0 == 0 then None else Some (start.0, end.0)
 

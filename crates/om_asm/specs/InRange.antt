@@ -1,7 +1,7 @@
 -- Numbers that lie within their types.
-use Rattle.std.specs.Prelude.{◌≡◌, ◌^◌, ◌<◌, length, true}
+use Rattle.std.specs.Prelude.{◌≡◌, ◌<◌, length, true}
 use Rattle.std.specs.List.{AllByRecursion}
-use Rattle.om_ring.specs.declared.numeral.Numeral.{Numeral}
+use Rattle.om_ring.specs.Numerals.{NumeralFits}
 use Rattle.om_legs.specs.Legs.{IsLegSet}
 use Rattle.om_model.specs.Name.{is_name}
 use Rattle.om_model.specs.declared.model.Particle.{Particle}
@@ -16,10 +16,6 @@ InstrInRange (Load slot leg) = leg < 256
 InstrInRange (Fuse slot minus vertex choice branches) = (choice < 256) × (length branches.nodes ≡ 4)
 InstrInRange (Prop slot den) = Unit {0}
 InstrInRange (Key flow minus vertex choice branches) = (choice < 256) × (length branches.nodes ≡ 4)
-
--- a numeral of 64 bits
-abbrev pub NumeralFits : Numeral → Type 0
-NumeralFits x = (x.num < 2 ^ 64) × (x.den < 2 ^ 64)
 
 -- names that are names, and numerals that fit
 pub record ParticleInRange (p : Particle) : Type 0 where

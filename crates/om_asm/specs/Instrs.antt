@@ -5,7 +5,7 @@ use Rattle.om_legs.specs.declared.branches.Branches.{Branches}
 use Rattle.om_code.specs.declared.code.Instr.{Instr}
 use Rattle.om_code.specs.declared.code.Instr.TheVariants.{Load, Fuse, Prop, Key}
 use Rattle.om_asm.specs.declared.instr_line.Joint.{Joint}
-use Rattle.om_program_text.specs.ProgramText.{Words}
+use Rattle.om_io.specs.Lines.{Words}
 use Rattle.om_asm.specs.Lines.{word_by, no_more}
 use Rattle.om_ring.specs.OptionSteps.{◌>>=◌}
 use Rattle.om_asm.specs.Spelt.{place_of, leg_of}

@@ -1,6 +1,6 @@
 -- Words that say a thing each.
 use Rattle.std.specs.Prelude.{ℕ, ◌+◌, nat_lt, if◌then◌else◌, List, [], ◌∷◌, Option, Some, None}
-use Rattle.om_program_text.specs.ProgramText.{Words}
+use Rattle.om_io.specs.Lines.{Words}
 use Rattle.om_ring.specs.OptionSteps.{◌>>=◌}
 
 -- what each word says, where there are at most so many; `count` stand before them

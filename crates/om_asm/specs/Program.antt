@@ -8,7 +8,7 @@ use Rattle.om_code.specs.declared.code.Code.{Code}
 use Rattle.om_code.specs.Plain.{registers_named, slots_for}
 use Rattle.om_asm.specs.declared.fault.AsmKind.{AsmKind}
 use Rattle.om_asm.specs.declared.fault.AsmKind.TheVariants.{Grammar}
-use Rattle.om_program_text.specs.ProgramText.{Words}
+use Rattle.om_io.specs.Lines.{Words}
 use Rattle.om_asm.specs.Lines.{At, first_line, lines_of}
 use Rattle.om_asm.specs.declared.reader.Process.{Process}
 use Rattle.om_asm.specs.Heads.{version_of, model_name_of, slots_of, end_of}

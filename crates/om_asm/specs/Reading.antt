@@ -1,24 +1,22 @@
 -- What the words of the other lines say. The first word, which tells the kind of a line, stands apart.
-use Rattle.std.specs.Prelude.{ℕ, ◌==◌, if◌then◌else◌, List, [], ◌∷◌, Option, Some, None, Result, Ok, Err}
+use Rattle.std.specs.Prelude.{ℕ, ◌==◌, if◌then◌else◌, List, Option, Some, None, Result, Ok, Err}
 use Rattle.std.specs.Str.{bytes_eq}
 use Rattle.std.specs.List.{slice_split}
 use Rattle.om_ring.specs.declared.numeral.Numeral.{Numeral}
 use Rattle.om_ring.specs.declared.numeral.NumeralFault.{NumeralFault}
 use Rattle.om_ring.specs.Numerals.{numeral_text}
 use Rattle.om_ring.specs.NumeralOf.{numeral_of}
-use Rattle.om_legs.specs.Legs.{set_of_one, union}
 use Rattle.om_model.specs.declared.limits.TheConstants.{MOST_NUMERALS}
 use Rattle.om_model.specs.Name.{is_name}
 use Rattle.om_model.specs.Words.{spin_of_word, colour_of_word}
 use Rattle.om_model.specs.FieldNames.{field_named}
+use Rattle.om_model.specs.LegSetText.{leg_set_of_word}
 use Rattle.om_model.specs.declared.model.Particle.{Particle}
 use Rattle.om_code.specs.declared.code.Den.{Den}
 use Rattle.om_asm.specs.declared.fault.AsmKind.{AsmKind}
 use Rattle.om_asm.specs.declared.fault.AsmKind.TheVariants.{Grammar, Name}
-use Rattle.om_program_text.specs.ProgramText.{Words}
-use Rattle.om_program_text.specs.Words.{set_word}
+use Rattle.om_io.specs.Lines.{Words}
 use Rattle.om_asm.specs.Lines.{word_by, no_more, next_word}
-use Rattle.om_ring.specs.Spelt.{decimal_below}
 use Rattle.om_asm.specs.Rows.{formed}
 use Rattle.om_ring.specs.ResultSteps.{◌>>=◌}
 use Rattle.om_asm.specs.Lists.{list_from}
@@ -39,20 +37,6 @@ factor_of word = canonical word (numeral_of word)
 abbrev pub product_of : List ℕ → Option (List Numeral)
 product_of word = list_from factor_of MOST_NUMERALS 0 (slice_split (λ b. b == 42) word)
 
--- the union of the sets of the legs that pieces name, each 1 to 12
-unfoldable pub legs_from : ℕ → Words → Option ℕ
-legs_from set [] = Some set
-legs_from set (w ∷ ws) = elim (decimal_below 13 w) [ None ↦ None | Some leg ↦ if leg == 0 then None else legs_from (union set (set_of_one leg)) ws ]
-
--- the set, where the word is its spelling
-abbrev pub spelled_set : List ℕ → Option ℕ → Option ℕ
-spelled_set word None = None
-spelled_set word (Some set) = if bytes_eq (set_word set) word then Some set else None
-
--- a set of legs, which rise
-abbrev pub set_of : List ℕ → Option ℕ
-set_of word = spelled_set word (legs_from 0 (slice_split (λ b. b == 43) word))
-
 -- the field that a name means
 abbrev pub known : Option ℕ → Result ℕ AsmKind
 known (Some field) = Ok field
@@ -70,7 +54,7 @@ leg_row particles words = do
 
 unfoldable pub den_row : List Particle → Words → Result Den AsmKind
 den_row particles words = do
-  set ← formed (word_by set_of words)
+  set ← formed (word_by leg_set_of_word words)
   name ← formed (next_word set.1)
   _ ← formed (no_more name.1)
   field ← named particles name.0

@@ -9,7 +9,7 @@ use Rattle.om_asm.specs.declared.fault.AsmFault.TheVariants as faults
 use Rattle.om_asm.specs.declared.fault.LineFault.{LineFault}
 use Rattle.om_asm.specs.declared.fault.LineFault.TheVariants as lines
 use Rattle.om_ring.specs.ResultSteps.{◌>>=◌}
-use Rattle.om_program_text.specs.ProgramText.{Words}
+use Rattle.om_io.specs.Lines.{Words}
 use Rattle.om_asm.specs.Lines.{At}
 use Rattle.om_asm.specs.Instrs.{fuse_of, key_of, prop_of, load_of}
 

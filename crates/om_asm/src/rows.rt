@@ -1,6 +1,6 @@
 //! Reading the lines of one kind, one after the other.
 ghost use Rattle.std.specs.Prelude.{◌≡◌, ℕ, List as ListOf, Bool as Test, Result as Answer, length};
-ghost use Rattle.om_program_text.specs.ProgramText.{Words as WordsOf};
+ghost use Rattle.om_io.specs.Lines.{Words as WordsOf};
 ghost use Rattle.om_asm.specs.Rows.{Gives, GivesAt, GivesMore, rows_from};
 ghost use Rattle.om_asm.specs.declared.fault.AsmKind.{AsmKind as Kind};
 

@@ -1,9 +1,9 @@
 //! Reading the words of particles, sets and fields.
 ghost use Rattle.std.specs.Prelude.{◌≡◌, ◌≤◌, ◌==◌, length, Option as Maybe, List as ListOf};
-ghost use Rattle.std.specs.List.{slice_split};
+ghost use Rattle.om_model.specs.LegSetText.{leg_set_of_word};
 ghost use Rattle.om_model.specs.Words.{spin_of_word, colour_of_word};
 ghost use Rattle.om_asm.specs.Lines.{Scans, word_by};
-ghost use Rattle.om_asm.specs.Reading.{name_of, factor_of, legs_from, set_of, named};
+ghost use Rattle.om_asm.specs.Reading.{name_of, factor_of, named};
 ghost use Rattle.om_asm.specs.Rows.{Gives};
 
 use crate::fault::{AsmKind, LineFault};
@@ -12,9 +12,8 @@ use crate::lines::Words;
 use om_colour::Colour;
 use om_legs::LegSet;
 use om_lorentz::Spin;
-use om_model::{Name, colour_of_word, spin_of};
-use om_program_text::push_set;
-use om_ring::{Line, Numeral, read_decimal_below, read_numeral, show_numeral};
+use om_model::{Name, colour_of_word, leg_set_of, spin_of};
+use om_ring::{Line, Numeral, read_numeral, show_numeral};
 
 pub(crate) fn read_name(word: &[u8]) -> Option<Name>
     ensures { result ≡ name_of word.now }
@@ -52,39 +51,10 @@ pub(crate) fn read_factor(word: &[u8]) -> Option<Numeral>
     if line.bytes() == word { Some(x) } else { None }
 }
 
-#[tactic(auto, unfolding(crate::specs::Reading::legs_from))]
-fn read_legs(mut pieces: Words) -> Option<LegSet>
-    ensures { result ≡ legs_from 0 pieces.entry }
-{
-    let mut set = LegSet::empty();
-    while let Some(piece) = pieces.next() {
-        let leg = read_decimal_below(piece, 13)?;
-        if leg == 0 {
-            return None;
-        }
-        set = set.union(LegSet::one(leg as u8));
-    }
-    Some(set)
-}
-
-/// A set of legs, which rise.
-pub(crate) fn read_set(word: &[u8]) -> Option<LegSet>
-    ensures { result ≡ set_of word.now }
-{
-    let set = read_legs(Words::pieces(word, b'+'))?;
-    let mut spelling = Line::new();
-    push_set(set, &mut spelling);
-    if spelling.bytes() == word {
-        Some(set)
-    } else {
-        None
-    }
-}
-
 pub(crate) fn next_set(words: &mut Words) -> Option<LegSet>
-    ensures { Scans (word_by set_of words.old) result words.new }
+    ensures { Scans (word_by leg_set_of_word words.old) result words.new }
 {
-    read_set(words.next()?)
+    leg_set_of(words.next()?)
 }
 
 /// A field by its name.

@@ -11,7 +11,7 @@ use Rattle.om_ring.specs.Members.{In, Different}
 use Rattle.om_code.specs.Spans.{is_named, span_holds, width}
 use Rattle.om_code.specs.SlotPlans.{IsSlotPlan, slots_used, free_from, least_free, Given, taken_at, give, give_each, given_before, slot_in, slot_or_0, first_fit}
 use Rattle.om_code.specs.Laws.{FirstFitIsNarrow}
-use Rattle.om_ring.proofs.Members.{in_from_member, member_from_in, absent_from_member, in_left, in_right, in_either, in_filter, of_filter, in_map, of_map, different_push, different_kept, few_below}
+use Rattle.om_ring.proofs.Members.{in_from_member, member_from_in, absent_from_member, in_left, in_right, in_either, in_filter, in_map, in_mapped, different_push, different_kept, few_below}
 use Rattle.om_code.proofs.SpanFacts.{Before, before_line, line_before, parts_of_span, span_from, span_earlier, no_earlier_span, line_after, few_at, width_needed, after_named}
 
 -- the least number that a list lacks
@@ -57,7 +57,7 @@ pub record AreGiven (lines : List (List ℕ)) (i : ℕ) (done : List ℕ) (given
   pub small : (g : ℕ × ℕ) → In g given → g.1 < width lines
 
 in_keys : (given : Given) (g : ℕ × ℕ) → In g given → In g.0 (keys_of given)
-in_keys given g i = in_map (λ h. h.0) given g i
+in_keys given g i = in_map (λ h. h.0) g given i
 
 -- a register without slot gets one
 module _ (lines : List (List ℕ)) (i : ℕ) (done : List ℕ) (given : Given) (r : ℕ) (l : i < length lines) (w : AreGiven lines i done given) (here : In r (get_or lines i [])) (absent : In r (keys_of given) → ⊥) where
@@ -77,19 +77,19 @@ module _ (lines : List (List ℕ)) (i : ℕ) (done : List ℕ) (given : Given) (
       let late : i ≤ j = no_earlier_span lines i j r (λ b. absent (w.into r (inl b))) hr in
       let held : span_holds lines i g.0 ≡ true = span_earlier lines i j g.0 late (key_before g k) hg in
       let P : ℕ → Type 0 = λ u. In u (taken_at lines i given) in
-      (least_free-is (taken_at lines i given)).free (subst P e (in_map (λ h. h.1) (filter (λ h. span_holds lines i h.0) given) g (in_filter (λ h. span_holds lines i h.0) given g held k)))
+      (least_free-is (taken_at lines i given)).free (subst P e (in_map (λ h. h.1) g (filter (λ h. span_holds lines i h.0) given) ((in_filter (λ h. span_holds lines i h.0) g given).1 (k, held))))
 
   free_below : free_slot < width lines
   unfolding free_slot taken_at
   free_below =
       let held = filter (λ h. span_holds lines i h.0) given in
       let rs = map (λ h. h.0) held in
-      let other : In r rs → ⊥ = λ k. let u = of_map (λ h. h.0) held r k in absent (let P : ℕ → Type 0 = λ x. In x (keys_of given) in subst P (sym u.is) (in_keys given u.source (of_filter (λ h. span_holds lines i h.0) given u.source u.is_in).1)) in
+      let other : In r rs → ⊥ = λ k. let u = in_mapped (λ h. h.0) r held k in absent (let P : ℕ → Type 0 = λ x. In x (keys_of given) in subst P (sym u.2) (in_keys given u.0 ((in_filter (λ h. span_holds lines i h.0) u.0 given).0 u.1).0)) in
       let d : Different (rs ++ r ∷ []) = different_push rs r (different_kept (λ h. h.0) (λ h. span_holds lines i h.0) given w.apart) other in
       let holds : (q : ℕ) → In q (rs ++ r ∷ []) → span_holds lines i q ≡ true = λ q k.
-      ⊎_elim (λ m. let u = of_map (λ h. h.0) held q m in ap (span_holds lines i) u.is ∙ (of_filter (λ h. span_holds lines i h.0) given u.source u.is_in).0)
+      ⊎_elim (λ m. let u = in_mapped (λ h. h.0) q held m in ap (span_holds lines i) u.2 ∙ ((in_filter (λ h. span_holds lines i h.0) u.0 given).0 u.1).1)
       (λ m. ⊎_elim (λ e. ap (span_holds lines i) e ∙ r_holds) (λ z. absurd z) m)
-      (in_either rs (r ∷ []) q k) in
+      (in_either q rs (r ∷ []) k) in
       let few : length (rs ++ r ∷ []) ≤ width lines = few_at lines i (rs ++ r ∷ []) l d holds in
       let a = (least_free-is (taken_at lines i given)).within in
       let b : length (taken_at lines i given) ≡ length held = length-map held (λ h. h.1) in
@@ -104,21 +104,21 @@ module _ (lines : List (List ℕ)) (i : ℕ) (done : List ℕ) (given : Given) (
       record {
         apart = subst Different (sym keys) (different_push (keys_of given) r w.apart absent);
         done_here = λ q k. ⊎_elim (λ e. let P : ℕ → Type 0 = λ x. In x (get_or lines i []) in subst P (sym e) here) (w.done_here q) k;
-        from = λ q k. ⊎_elim (λ m. ⊎_elim inl (λ z. inr (inr z)) (w.from q m)) (λ m. ⊎_elim (λ e. inr (inl e)) (λ z. absurd z) m) (in_either (keys_of given) (r ∷ []) q (let P : List ℕ → Type 0 = λ xs. In q xs in subst P keys k));
-        into = λ q k. let P : List ℕ → Type 0 = λ xs. In q xs in subst P (sym keys) (⊎_elim (λ b. in_left (keys_of given) (r ∷ []) q (w.into q (inl b))) (λ m. ⊎_elim (λ e. in_right (keys_of given) (r ∷ []) q (inl e)) (λ z. in_left (keys_of given) (r ∷ []) q (w.into q (inr z))) m) k);
+        from = λ q k. ⊎_elim (λ m. ⊎_elim inl (λ z. inr (inr z)) (w.from q m)) (λ m. ⊎_elim (λ e. inr (inl e)) (λ z. absurd z) m) (in_either q (keys_of given) (r ∷ []) (let P : List ℕ → Type 0 = λ xs. In q xs in subst P keys k));
+        into = λ q k. let P : List ℕ → Type 0 = λ xs. In q xs in subst P (sym keys) (⊎_elim (λ b. in_left q (keys_of given) (r ∷ []) (w.into q (inl b))) (λ m. ⊎_elim (λ e. in_right q (keys_of given) (r ∷ []) (inl e)) (λ z. in_left q (keys_of given) (r ∷ []) (w.into q (inr z))) m) k);
         plan = λ g h j kg kh hg hh e. ⊎_elim
             (λ mg. ⊎_elim
             (λ mh. w.plan g h j mg mh hg hh e)
             (λ mh. ⊎_elim (λ eh. absurd (not_shared g j mg hg (ap (λ x. span_holds lines j x.0) (sym eh) ∙ hh) (e ∙ ap (λ x. x.1) eh))) (λ z. absurd z) mh)
-            (in_either given ((r, free_slot) ∷ []) h kh))
+            (in_either h given ((r, free_slot) ∷ []) kh))
             (λ mg. ⊎_elim
             (λ eg. ⊎_elim
             (λ mh. absurd (not_shared h j mh hh (ap (λ x. span_holds lines j x.0) (sym eg) ∙ hg) (sym e ∙ ap (λ x. x.1) eg)))
             (λ mh. ⊎_elim (λ eh. ap (λ x. x.0) eg ∙ sym (ap (λ x. x.0) eh)) (λ z. absurd z) mh)
-            (in_either given ((r, free_slot) ∷ []) h kh))
+            (in_either h given ((r, free_slot) ∷ []) kh))
             (λ z. absurd z) mg)
-            (in_either given ((r, free_slot) ∷ []) g kg);
-        small = λ g k. ⊎_elim (w.small g) (λ m. ⊎_elim (λ e. subst (λ n. n < width lines) (sym (ap (λ x. x.1) e)) free_below) (λ z. absurd z) m) (in_either given ((r, free_slot) ∷ []) g k);
+            (in_either g given ((r, free_slot) ∷ []) kg);
+        small = λ g k. ⊎_elim (w.small g) (λ m. ⊎_elim (λ e. subst (λ n. n < width lines) (sym (ap (λ x. x.1) e)) free_below) (λ z. absurd z) m) (in_either g given ((r, free_slot) ∷ []) k);
       }
 
 -- a register that has a slot keeps it
@@ -221,7 +221,7 @@ module _ (lines : List (List ℕ)) where
   first_fit-used : slots_used lines (first_fit lines) ≡ width lines
   unfolding slots_used
   first_fit-used = le_antisymm
-      (few_below (map (first_fit lines) (concat lines)) (width lines) (λ q k. let w = of_map (first_fit lines) (concat lines) q k in subst (λ n. n < width lines) (sym w.is) (first_fit-below w.source w.is_in)))
+      (few_below (map (first_fit lines) (concat lines)) (width lines) (λ q k. let w = in_mapped (first_fit lines) q (concat lines) k in subst (λ n. n < width lines) (sym w.2) (first_fit-below w.0 w.1)))
       (width_needed lines (first_fit lines) first_fit-plan)
 
   pub first_fit-narrow : FirstFitIsNarrow lines

@@ -6,17 +6,17 @@ use Rattle.om_ring.specs.Members.{In}
 use Rattle.om_code.specs.SlotPlans.{IsSlotPlan}
 use Rattle.om_code.specs.Registers.{loads, Step, load, fuse, prop, key, State, named_by, lines_of, act, run, start, placed, ReadsWritten, look, adds, begins, turns, closes, found, finds, AreApart}
 use Rattle.om_code.specs.Laws.{PlansKeepFinds}
-use Rattle.om_ring.proofs.Members.{of_map}
+use Rattle.om_ring.proofs.Members.{in_mapped}
 use Rattle.om_code.proofs.SpanFacts.{Before, After, line_before, line_after, span_from}
 use Rattle.om_code.proofs.PlacedRuns.{Agree, StandsAt, Known, run_settles, agree_act, stands_at, known_next, decided_in, all_in, here_after, here_before}
 
 -- no fuse reads its own slot
 apart_here : (lines : List (List ℕ)) (plan : ℕ → ℕ) → IsSlotPlan lines plan → (i to : ℕ) (bs : List ℕ) → i < length lines → get_or lines i [] ≡ to ∷ bs → (In to bs → ⊥) → In (plan to) (map plan bs) → ⊥
 apart_here lines plan p i to bs l e n h =
-    let u = of_map plan bs (plan to) h in
+    let u = in_mapped plan (plan to) bs h in
     let holds = λ (r : ℕ) (j : In r (to ∷ bs)). let P : List ℕ → Type 0 = λ ys. In r ys in let k : In r (get_or lines i []) = subst P (sym e) j in span_from lines i r (line_before lines i r l (inr k)) (line_after lines i r l (inl k)) in
-    let same : to ≡ u.source = p to u.source i (holds to (inl refl)) (holds u.source (inr u.is_in)) u.is in
-    n (let P : ℕ → Type 0 = λ r. In r bs in subst P (sym same) u.is_in)
+    let same : to ≡ u.0 = p to u.0 i (holds to (inl refl)) (holds u.0 (inr u.1)) u.2 in
+    n (let P : ℕ → Type 0 = λ r. In r bs in subst P (sym same) u.1)
 
 module _ {W S : Type 0} (plus : W → W → W) where
   module _ (lines : List (List ℕ)) (plan : ℕ → ℕ) (p : IsSlotPlan lines plan) (i : ℕ) (l : i < length lines) (a b : State W S) (w : Agree plus lines plan i a b) where

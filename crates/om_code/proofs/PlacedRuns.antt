@@ -40,7 +40,7 @@ module _ {W S : Type 0} (plus : W → W → W) where
   pub run_settles : (xs : List (Step W S)) (st : State W S) (r : ℕ) → (In r (concat (lines_of xs)) → ⊥) → (run plus xs st).gathering r ≡ st.gathering r
   unfolding run
   run_settles [] st r n = refl
-  run_settles (x ∷ xs) st r n = run_settles xs (act plus x st) r (λ i. n (in_right (named_by x) (concat (lines_of xs)) r i)) ∙ act_settles x st r (λ i. n (in_left (named_by x) (concat (lines_of xs)) r i))
+  run_settles (x ∷ xs) st r n = run_settles xs (act plus x st) r (λ i. n (in_right r (named_by x) (concat (lines_of xs)) i)) ∙ act_settles x st r (λ i. n (in_left r (named_by x) (concat (lines_of xs)) i))
 
   -- the registers that are still needed have their values in their slots, and no other slot gathers
   pub record Agree (lines : List (List ℕ)) (plan : ℕ → ℕ) (i : ℕ) (a b : State W S) : Type 0 where

@@ -10,7 +10,7 @@ use Rattle.std.proofs.lemmas.List.Folds.{concat-append}
 use Rattle.om_ring.specs.Members.{In, Different}
 use Rattle.om_code.specs.Spans.{is_named, span_holds, spans_at, greatest_below, width}
 use Rattle.om_code.specs.SlotPlans.{IsSlotPlan, slots_used}
-use Rattle.om_ring.proofs.Members.{in_from_member, member_from_in, in_left, in_right, in_either, in_filter, of_filter, in_map, of_map, different_map, different_unique, of_unique, few_members}
+use Rattle.om_ring.proofs.Members.{in_from_member, member_from_in, in_left, in_right, in_either, in_filter, in_map, in_mapped, different_map, different_unique, of_unique, few_members}
 
 -- the registers that the first n lines name, and those that the lines from n on name
 abbrev pub Before : List (List ℕ) → ℕ → ℕ → Type 0
@@ -26,14 +26,14 @@ before_line lines i r l h =
     let e : In r (concat (take i lines ++ get_or lines i [] ∷ [])) = subst P (take_more lines i [] l) h in
     let Q : List ℕ → Type 0 = λ xs. In r xs in
     let f : In r (concat (take i lines) ++ concat (get_or lines i [] ∷ [])) = subst Q (concat-append (take i lines) (get_or lines i [] ∷ [])) e in
-    ⊎_elim inl (λ j. inr (subst Q (append-nil (get_or lines i [])) j)) (in_either (concat (take i lines)) (get_or lines i [] ++ []) r f)
+    ⊎_elim inl (λ j. inr (subst Q (append-nil (get_or lines i [])) j)) (in_either r (concat (take i lines)) (get_or lines i [] ++ []) f)
 
 pub line_before : (lines : List (List ℕ)) (i r : ℕ) → i < length lines → Before lines i r ⊎ In r (get_or lines i []) → Before lines (i + 1) r
 line_before lines i r l h =
     let P : List (List ℕ) → Type 0 = λ xs. In r (concat xs) in
     let Q : List ℕ → Type 0 = λ xs. In r xs in
     let f : In r (concat (take i lines) ++ (get_or lines i [] ++ [])) =
-    ⊎_elim (λ j. in_left (concat (take i lines)) (get_or lines i [] ++ []) r j) (λ j. in_right (concat (take i lines)) (get_or lines i [] ++ []) r (in_left (get_or lines i []) [] r j)) h in
+    ⊎_elim (λ j. in_left r (concat (take i lines)) (get_or lines i [] ++ []) j) (λ j. in_right r (concat (take i lines)) (get_or lines i [] ++ []) (in_left r (get_or lines i []) [] j)) h in
     subst P (sym (take_more lines i [] l)) (subst Q (sym (concat-append (take i lines) (get_or lines i [] ∷ []))) f)
 
 pub after_line : (lines : List (List ℕ)) (i r : ℕ) → i < length lines → After lines i r → In r (get_or lines i []) ⊎ After lines (i + 1) r
@@ -41,26 +41,26 @@ after_line lines i r l h =
     let P : List (List ℕ) → Type 0 = λ xs. In r (concat xs) in
     let e : In r (get_or lines i [] ++ concat (drop (suc i) lines)) = subst P (drop-cons lines i [] l) h in
     let R : ℕ → Type 0 = λ n. In r (concat (drop n lines)) in
-    ⊎_elim inl (λ j. inr (subst R (sym (add-one i)) j)) (in_either (get_or lines i []) (concat (drop (suc i) lines)) r e)
+    ⊎_elim inl (λ j. inr (subst R (sym (add-one i)) j)) (in_either r (get_or lines i []) (concat (drop (suc i) lines)) e)
 
 pub line_after : (lines : List (List ℕ)) (i r : ℕ) → i < length lines → In r (get_or lines i []) ⊎ After lines (i + 1) r → After lines i r
 line_after lines i r l h =
     let P : List (List ℕ) → Type 0 = λ xs. In r (concat xs) in
     let R : ℕ → Type 0 = λ n. In r (concat (drop n lines)) in
     subst P (sym (drop-cons lines i [] l))
-    (⊎_elim (λ j. in_left (get_or lines i []) (concat (drop (suc i) lines)) r j) (λ j. in_right (get_or lines i []) (concat (drop (suc i) lines)) r (subst R (add-one i) j)) h)
+    (⊎_elim (λ j. in_left r (get_or lines i []) (concat (drop (suc i) lines)) j) (λ j. in_right r (get_or lines i []) (concat (drop (suc i) lines)) (subst R (add-one i) j)) h)
 
 -- what is named before stays so, and what is named later was so before
 pub before_grows : (lines : List (List ℕ)) (i j r : ℕ) → i ≤ j → Before lines i r → Before lines j r
 before_grows lines zero j r l h = absurd h
 before_grows [] (suc i) j r l h = absurd h
 before_grows (x ∷ xs) (suc i) zero r l h = absurd (omega arith)
-before_grows (x ∷ xs) (suc i) (suc j) r l h = ⊎_elim (λ k. in_left x (concat (take j xs)) r k) (λ k. in_right x (concat (take j xs)) r (before_grows xs i j r (omega arith) k)) (in_either x (concat (take i xs)) r h)
+before_grows (x ∷ xs) (suc i) (suc j) r l h = ⊎_elim (λ k. in_left r x (concat (take j xs)) k) (λ k. in_right r x (concat (take j xs)) (before_grows xs i j r (omega arith) k)) (in_either r x (concat (take i xs)) h)
 
 pub after_named : (lines : List (List ℕ)) (j r : ℕ) → After lines j r → In r (concat lines)
 after_named lines zero r h = h
 after_named [] (suc j) r h = h
-after_named (x ∷ xs) (suc j) r h = in_right x (concat xs) r (after_named xs j r h)
+after_named (x ∷ xs) (suc j) r h = in_right r x (concat xs) (after_named xs j r h)
 
 pub after_shrinks : (lines : List (List ℕ)) (i j r : ℕ) → i ≤ j → After lines j r → After lines i r
 after_shrinks lines zero j r l h = after_named lines j r h
@@ -108,7 +108,7 @@ greatest_le f (suc n) m h = max-le (h n (omega arith)) (greatest_le f n m (λ k 
 pub few_at : (lines : List (List ℕ)) (i : ℕ) (rs : List ℕ) → i < length lines → Different rs → ((r : ℕ) → In r rs → span_holds lines i r ≡ true) → length rs ≤ width lines
 unfolding width spans_at
 few_at lines i rs l d h =
-    le_trans (few_members rs (filter (span_holds lines i) (concat lines)) d (λ r j. in_filter (span_holds lines i) (concat lines) r (h r j) (after_named lines i r (parts_of_span lines i r (h r j)).1)))
+    le_trans (few_members rs (filter (span_holds lines i) (concat lines)) d (λ r j. (in_filter (span_holds lines i) r (concat lines)).1 (after_named lines i r (parts_of_span lines i r (h r j)).1, h r j)))
     (le_greatest (spans_at lines) (length lines) i l)
 
 -- each plan needs as many numbers as spans hold one instruction
@@ -117,12 +117,12 @@ unfolding spans_at slots_used
 many_at lines plan i p =
     let held = filter (span_holds lines i) (concat lines) in
     let us = unique_keys eqb held in
-    let holds : (r : ℕ) → In r us → span_holds lines i r ≡ true = λ r j. (of_filter (span_holds lines i) (concat lines) r (of_unique held r j)).0 in
+    let holds : (r : ℕ) → In r us → span_holds lines i r ≡ true = λ r j. ((in_filter (span_holds lines i) r (concat lines)).0 (of_unique held r j)).1 in
     let d : Different (map plan us) = different_map plan us (λ r s j k e. p r s i (holds r j) (holds s k) e) (different_unique held) in
     let inside : (q : ℕ) → In q (map plan us) → In q (map plan (concat lines)) = λ q j.
-    let w = of_map plan us q j in
+    let w = in_mapped plan q us j in
     let P : ℕ → Type 0 = λ u. In u (map plan (concat lines)) in
-    subst P (sym w.is) (in_map plan (concat lines) w.source (of_filter (span_holds lines i) (concat lines) w.source (of_unique held w.source w.is_in)).1) in
+    subst P (sym w.2) (in_map plan w.0 (concat lines) ((in_filter (span_holds lines i) w.0 (concat lines)).0 (of_unique held w.0 w.1)).0) in
     subst (λ n. n ≤ distinct_count eqb (map plan (concat lines))) (length-map us plan) (few_members (map plan us) (map plan (concat lines)) d inside)
 
 pub width_needed : (lines : List (List ℕ)) (plan : ℕ → ℕ) → IsSlotPlan lines plan → width lines ≤ slots_used lines plan

@@ -1,14 +1,14 @@
 //! Which codes have a text.
 ghost use Rattle.std.specs.Prelude.{◌≤◌, ◌↔◌, ◌≡◌, IsTrue, length};
 ghost use Rattle.std.specs.List.{AllByRecursion};
-ghost use Rattle.om_code.specs.Plain.{HasPlainLines, HasPlainModel, IsNamed, IsPlain, IsPlainDen, IsPlainFlow, IsPlainParticle, IsPlainVertex, IsProduct};
+ghost use Rattle.om_code.specs.Plain.{HasPlainLines, HasPlainModel, IsNamed, IsPlain, IsPlainDen, IsPlainFlow, IsPlainVertex};
+ghost use Rattle.om_model.specs.Rules.{HasLength, HasLengths};
 
 use crate::plain_instrs::has_plain_instrs;
 use crate::{Code, Den, MOST_PARTICLE_LINES};
 use om_colour::Flow;
 use om_legs::{LegSet, MOST_LEGS};
-use om_model::limits::MOST_NUMERALS;
-use om_model::{Particle, Product, Vertex, field_name, field_named};
+use om_model::{Particle, Product, Vertex, field_name, field_named, has_length, has_lengths};
 
 /// Whether a code is plain, so that it has a text. Its version is 1 or 2; it has at most 32,768 particles; each of its fields
 /// is that of a particle, and the first that its name means; numbers that count from 1 in the text stay below 2^32; products,
@@ -40,34 +40,22 @@ fn has_plain_lines(code: &Code) -> bool
         && are_plain_dens(particles, code.dens.as_slice())
 }
 
-fn is_product(product: &Product) -> bool
-    ensures { IsTrue result ↔ IsProduct product.now }
-{
-    1 <= product.len() && product.len() <= MOST_NUMERALS
-}
-
 fn are_products(products: &[Product]) -> bool
-    ensures { IsTrue result ↔ AllByRecursion IsProduct products.now }
+    ensures { IsTrue result ↔ AllByRecursion HasLength products.now }
 {
     for product in products {
-        if !is_product(product) {
+        if !has_length(product.as_slice()) {
             return false;
         }
     }
     true
 }
 
-fn is_plain_particle(particle: &Particle) -> bool
-    ensures { IsTrue result ↔ IsPlainParticle particle.now }
-{
-    is_product(&particle.mass) && is_product(&particle.width) && is_product(&particle.norm)
-}
-
 fn are_plain_particles(particles: &[Particle]) -> bool
-    ensures { IsTrue result ↔ AllByRecursion IsPlainParticle particles.now }
+    ensures { IsTrue result ↔ AllByRecursion HasLengths particles.now }
 {
     for particle in particles {
-        if !is_plain_particle(particle) {
+        if !has_lengths(particle) {
             return false;
         }
     }

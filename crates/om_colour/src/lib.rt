@@ -14,7 +14,7 @@
 #![tactic(auto)]
 
 ghost use Rattle.std.specs.Prelude.{◌≡◌};
-ghost use Rattle.om_colour.specs.Lines.{anti_colour};
+ghost use Rattle.om_colour.specs.Lines.{anti_colour, ends_line, starts_line};
 
 mod joining;
 pub mod laws;
@@ -54,6 +54,20 @@ impl Colour {
             Colour::AntiThree => Colour::Three,
             Colour::Eight => Colour::Eight,
         }
+    }
+
+    /// Whether a leg of this colour starts a line.
+    pub fn starts_line(self) -> bool
+        ensures { result ≡ starts_line self }
+    {
+        matches!(self, Colour::Three | Colour::Eight)
+    }
+
+    /// Whether a leg of this colour ends a line.
+    pub fn ends_line(self) -> bool
+        ensures { result ≡ ends_line self }
+    {
+        matches!(self, Colour::AntiThree | Colour::Eight)
     }
 }
 

@@ -29,7 +29,7 @@ fn ends_from(leg: u8, colour: Colour) -> [u8; ENDS]
     ensures { result ≡ each_leg (λ k. cond (starts_line colour && eqb (k + 1) leg) UPWARDS 0) }
 {
     let mut ends = [0; ENDS];
-    if starts_line(colour) {
+    if colour.starts_line() {
         ends[leg as usize - 1] = UPWARDS;
     }
     ends
@@ -38,17 +38,5 @@ fn ends_from(leg: u8, colour: Colour) -> [u8; ENDS]
 fn end_within(leg: u8, colour: Colour) -> u8
     ensures { result ≡ cond (ends_line colour) leg 0 }
 {
-    if ends_line(colour) { leg } else { 0 }
-}
-
-fn starts_line(colour: Colour) -> bool
-    ensures { result ≡ starts_line colour }
-{
-    matches!(colour, Colour::Three | Colour::Eight)
-}
-
-fn ends_line(colour: Colour) -> bool
-    ensures { result ≡ ends_line colour }
-{
-    matches!(colour, Colour::AntiThree | Colour::Eight)
+    if colour.ends_line() { leg } else { 0 }
 }

@@ -37,7 +37,8 @@ pub fn flow_text(flow: &Flow, to: &mut Line)
 /// the line that enters and ends at leg t. Wants [`FLOW_BYTES`] free bytes, which suffice for any ends.
 pub fn partial_text(part: &Partial, to: &mut Line)
     requires { length to.old + FLOW_BYTES ≤ LINE_BYTES }
-    ensures { to.new ≡ to.old ++ partial_bytes part.now }
+    ensures text { to.new ≡ to.old ++ partial_bytes part.now }
+    ensures short { length to.new ≤ length to.old + FLOW_BYTES }
 {
     let count = push_lines(to, Extent::Side, &part.ends);
     if part.into != 0 {

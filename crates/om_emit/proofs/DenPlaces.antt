@@ -1,16 +1,14 @@
 -- The denominators of a canonical graph: their places, and that each is one of an inner edge.
-use Rattle.std.proofs.Common.{◌≡◌, ℕ, zero, suc, ◌+◌, ◌-◌, ◌*◌, ◌<◌, ◌≤◌, List, [], ◌∷◌, length, map, Bool, true, false, cond, eqb, ltb, ◌&&◌, ◌||◌, not, leb, ⊎_elim, ◌⊎◌, inl, inr, refl, sym, ◌∙◌, ap, ap₂, subst, arith, true≢false}
-use Rattle.std.specs.Prelude.{Option, Some, None, slice_get, nat_lt, nat_le, ◌==◌, if◌then◌else◌}
-use Rattle.std.specs.List.{AllByRecursion, position_or_len}
+use Rattle.std.proofs.Common.{◌≡◌, ℕ, zero, suc, ◌+◌, ◌-◌, ◌<◌, ◌≤◌, List, [], ◌∷◌, length, Bool, true, false, cond, ◌&&◌, not, leb, inl, inr, refl, sym, ◌∙◌, ap, ap₂, arith, true≢false}
+use Rattle.std.specs.Prelude.{Option, Some, slice_get, ◌==◌, if◌then◌else◌}
 use Rattle.std.specs.List.Sorted.{IsStrictlySortedBy}
 use Rattle.std.specs.Ordering.{is_eq, ordering_reverse}
 use Rattle.std.specs.declared.cmp.Ordering.{Ordering}
 use Rattle.std.specs.declared.cmp.Ordering.TheVariants.{Less, Equal, Greater}
-use Rattle.std.specs.BTreeMap.{is_at}
 use Rattle.std.proofs.lemmas.Bool.Decides.{nat_tests}
 use Rattle.std.proofs.lemmas.Option.{same_Some, slice_get_within, none-some}
 use Rattle.om_ring.specs.Members.{In}
-use Rattle.om_legs.specs.Legs.{IsLegSet, IsSubset, all_legs, complement, holds, legs_of, minus, set_of, size}
+use Rattle.om_legs.specs.Legs.{IsLegSet, all_legs, complement, holds, legs_of, minus, set_of, size}
 use Rattle.om_legs.proofs.Bits.{same_sets, leg_range}
 use Rattle.om_legs.proofs.Least.{IsSubset_from}
 use Rattle.om_legs.proofs.LegLists.{holds_none}
@@ -48,14 +46,14 @@ all_size (suc (suc (suc (suc (suc (suc (suc (suc (suc (suc (suc (suc zero)))))))
 all_size (suc (suc (suc (suc (suc (suc (suc (suc (suc (suc (suc (suc (suc n))))))))))))) l = absurd (omega arith)
 
 -- sets of the legs 1 to n
-module _ (n : ℕ) (few : n ≤ 12) where
-  abbrev pub IsWithin : ℕ → Type 0
-  IsWithin set = (leg : ℕ) → holds set leg ≡ true → leg ≤ n
+abbrev pub IsWithin : ℕ → ℕ → Type 0
+IsWithin n set = (leg : ℕ) → holds set leg ≡ true → leg ≤ n
 
-  in_all_legs : (set leg : ℕ) → IsLegSet set → IsWithin set → holds set leg ≡ true → holds (all_legs n) leg ≡ true
+module _ (n : ℕ) (few : n ≤ 12) where
+  in_all_legs : (set leg : ℕ) → IsLegSet set → IsWithin n set → holds set leg ≡ true → holds (all_legs n) leg ≡ true
   in_all_legs set leg w h e = let range = leg_range set leg w e in let l = h leg e in holds-all_legs n leg few range.0 ∙ (let t : leb leg n ≡ true = grind (arith, nat_tests) in t)
 
-  minus_all : (set : ℕ) → IsLegSet set → IsWithin set → minus set (all_legs n) ≡ 0
+  minus_all : (set : ℕ) → IsLegSet set → IsWithin n set → minus set (all_legs n) ≡ 0
   minus_all set w h = same_sets (minus set (all_legs n)) 0 (λ leg. holds-minus set (all_legs n) leg w ∙ none (holds set leg) (holds (all_legs n) leg) (in_all_legs set leg w h) ∙ sym (holds_none leg))
     where
       none : (a b : Bool) → (a ≡ true → b ≡ true) → (a && not b) ≡ false
@@ -63,7 +61,7 @@ module _ (n : ℕ) (few : n ≤ 12) where
       none true false f = absurd (true≢false (sym (f refl)))
       none false b f = refl
 
-  complement_within : (set : ℕ) → IsWithin (complement set n)
+  complement_within : (set : ℕ) → IsWithin n (complement set n)
   complement_within set leg e =
       let range = leg_range (complement set n) leg (IsLegSet-complement set n) e in
       small (leb leg n) (not (holds set leg)) refl (sym (holds-complement set n leg few range.0) ∙ e)
@@ -72,13 +70,13 @@ module _ (n : ℕ) (few : n ≤ 12) where
       small true b t f = grind (arith, nat_tests)
       small false b t f = absurd (true≢false (sym f))
 
-  complement_size : (set : ℕ) → IsLegSet set → IsWithin set → size (complement set n) + size set ≡ n
+  complement_size : (set : ℕ) → IsLegSet set → IsWithin n set → size (complement set n) + size set ≡ n
   complement_size set w h =
       let shares = AreShares-minus (all_legs n) set (IsLegSet-all_legs n) w (IsSubset_from set (all_legs n) w (λ leg e. in_all_legs set leg w h e)) in
       ap (λ s. size s + size set) (sym (complement-minus set n few)) ∙ sym (size-shares (all_legs n) (minus (all_legs n) set) set shares) ∙ all_size n few
 
   -- the side without leg 1 of an inner edge
-  side_inner : (set : ℕ) → IsLegSet set → IsWithin set → 2 ≤ size set → size set + 2 ≤ n → (b : Bool) → holds set 1 ≡ b → IsInner n (cond b (complement set n) set)
+  pub side_inner : (set : ℕ) → IsLegSet set → IsWithin n set → 2 ≤ size set → size set + 2 ≤ n → (b : Bool) → holds set 1 ≡ b → IsInner n (cond b (complement set n) set)
   side_inner set w h two most true e =
       let sizes = complement_size set w h in
       record {

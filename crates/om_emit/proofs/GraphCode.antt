@@ -15,13 +15,12 @@ use Rattle.om_code.specs.Registers as step
 use Rattle.om_code.specs.Registers.{Step, run, start, named_by, lines_of, placed, finds}
 use Rattle.om_emit.specs.NodeCode.{Fusion, Node, leg, inner, Keystone, node_code, nodes_code, graph_code, IsBuiltBelow, AreBuilt, gathered, IsWaveOf, AreWaves, keystone_sums, IsGraphOf}
 use Rattle.om_code.specs.Ops.{Op, load, fuse, prop, key, named_in, placed_op, Meaning, step_of}
-use Rattle.om_keystone.specs.Built.{is_inner, terms_at, IsBuilt, IsBelow, NodesAreBuilt}
+use Rattle.om_keystone.specs.Built.{is_inner, terms_at, IsBelow, NodesAreBuilt}
 use Rattle.om_emit.specs.GraphCode.{fuse_op, key_op, node_ops, nodes_ops, den_place, register_ops, register_lines}
 use Rattle.om_emit.specs.NodeContents.{node_content, AreNodeContents, closed_sums}
 use Rattle.om_emit.specs.Laws.{GraphCodeGivesSums, GraphKeepsFinds, GraphCodeKeepsFinds}
 use Rattle.om_emit.proofs.NodeCode.{code_gives_keystones}
 use Rattle.om_emit.proofs.NodeFinds.{code_keeps_finds}
-use Rattle.om_emit.proofs.NodeFine.{Fine, IsReadyNode, AllReady, code_fine}
 
 map_map : {A B C : Type 0} (f : B → C) (g : A → B) (xs : List A) → map f (map g xs) ≡ map (λ x. f (g x)) xs
 map_map f g [] = refl
@@ -130,16 +129,6 @@ module _ {W S : Type 0} (m : Meaning W S) where
       nodes_are_waves k [] h = tt
       nodes_are_waves k (node ∷ nodes) h = (node_is_wave k node h.0, nodes_are_waves (suc k) nodes h.1)
 
-    -- legs and what propagators make are ready
-    nodes_ready : (ready : W → Type 0) → ((k : ℕ) → ready (m.loaded k)) → ((d : ℕ) (x : W) → ready (m.moved d x)) → (k : ℕ) (nodes : List Key) → AllReady ready (nodes_at k nodes)
-    unfolding nodes_at node_at
-    nodes_ready ready legs moves k [] = tt
-    nodes_ready ready legs moves k (node ∷ nodes) = (by (is_inner node), nodes_ready ready legs moves (suc k) nodes)
-      where
-        by : (b : Bool) → IsReadyNode ready (cond b (inner (map fusion_of (terms_at terms k)) (m.moved (den node))) (leg (m.loaded (least node.legs))))
-        by true = moves (den node)
-        by false = legs (least node.legs)
-
   -- the keystones
   key_steps : (ts : List KeyTerm) → map (step_of m) (map key_op ts) ≡ map (λ y. step.key y.branches y.summed) (map keystone_of ts)
   unfolding keystone_of
@@ -174,16 +163,6 @@ module _ {W S : Type 0} (plus : W → W → W) where
       let closed : AllByRecursion (λ y. AllByRecursion (λ b. b < length nodes) y.branches) ys = let Q : ℕ → Type 0 = λ k. AllByRecursion (λ y. AllByRecursion (λ b. b < k) y.branches) ys in subst Q (sym (length-nodes_at m den graph.terms 0 graph.nodes)) (keys_closed m (length graph.nodes) graph.keys built.keys) in
       let R : List (Step W S) → Type 0 = λ xs. GraphKeepsFinds plus blank sums xs plan in
       subst R (sym same) (code_keeps_finds plus blank sums nodes ys plan (nodes_built m den graph.terms 0 graph.nodes built.nodes) closed (subst P (sym lines) p))
-
-  pub graph_fine : (ready : W → Type 0) (blank : W) (sums : S) (m : Meaning W S) (model : Model) (n : ℕ) (graph : Graph) → IsBuilt graph → ((k : ℕ) → ready (m.loaded k)) → ((d : ℕ) (x : W) → ready (m.moved d x))
-      → AllByRecursion (Fine ready) (finds plus (map (step_of m) (register_ops model n graph)) (start blank sums))
-  graph_fine ready blank sums m model n graph built legs moves =
-      let den = den_place model n graph in
-      let nodes = nodes_at m den graph.terms 0 graph.nodes in
-      let ys = map (keystone_of m) graph.keys in
-      let closed : AllByRecursion (λ y. AllByRecursion (λ b. b < length nodes) y.branches) ys = let Q : ℕ → Type 0 = λ k. AllByRecursion (λ y. AllByRecursion (λ b. b < k) y.branches) ys in subst Q (sym (length-nodes_at m den graph.terms 0 graph.nodes)) (keys_closed m (length graph.nodes) graph.keys built.keys) in
-      let R : List (Step W S) → Type 0 = λ xs. AllByRecursion (Fine ready) (finds plus xs (start blank sums)) in
-      subst R (sym (graph_steps m model n graph)) (code_fine plus ready blank sums nodes ys (nodes_built m den graph.terms 0 graph.nodes built.nodes) closed (nodes_ready m den graph.terms ready legs moves 0 graph.nodes))
 
   pub graph_code_gives_sums : GraphCodeGivesSums W S plus
   graph_code_gives_sums blank sums m model n graph wave plan built waves p =

@@ -1,13 +1,13 @@
 -- The vertices of a canonical graph make what the rules of programs ask for.
-use Rattle.std.proofs.Common.{◌≡◌, ℕ, zero, suc, ◌+◌, ◌-◌, ◌*◌, ◌<◌, ◌≤◌, List, [], ◌∷◌, length, map, Bool, true, false, cond, eqb, ltb, ◌&&◌, ◌||◌, not, ⊎_elim, inl, inr, refl, sym, ◌∙◌, ap, ap₂, subst, arith, true≢false}
-use Rattle.std.specs.Prelude.{Option, Some, None, slice_get, slice_index_or, nat_lt, ◌==◌}
+use Rattle.std.proofs.Common.{◌≡◌, ℕ, zero, suc, ◌+◌, ◌-◌, ◌*◌, ◌<◌, ◌≤◌, List, [], ◌∷◌, length, map, Bool, true, false, cond, eqb, ltb, ◌&&◌, not, ⊎_elim, inl, inr, refl, sym, ◌∙◌, ap, ap₂, subst, arith, true≢false}
+use Rattle.std.specs.Prelude.{Option, Some, slice_get, slice_index_or, nat_lt, ◌==◌}
 use Rattle.std.specs.List.{AllByRecursion}
 use Rattle.std.proofs.lemmas.Bool.{eqb-true}
 use Rattle.std.proofs.lemmas.Bool.Decides.{nat_tests}
 use Rattle.std.proofs.lemmas.List.{length-map}
 use Rattle.std.proofs.lemmas.Option.{same_Some, slice_get_within}
 use Rattle.om_ring.specs.Members.{In}
-use Rattle.om_legs.specs.Legs.{IsLegSet, all_legs, holds, least, set_of_one, size}
+use Rattle.om_legs.specs.Legs.{all_legs, holds, least, set_of_one, size}
 use Rattle.om_legs.proofs.Operations.{IsLegSet-all_legs}
 use Rattle.om_model.specs.Diagram.{same_numbers, times_in}
 use Rattle.om_model.specs.FermionLines.{Kinds}
@@ -74,7 +74,7 @@ first_left_is slots fields f (x ∷ xs) e i = by (same_numbers (x ∷ fields) sl
 left_is : (slots fields : List ℕ) (f : ℕ) → same_numbers (f ∷ fields) slots ≡ true → left_field slots fields ≡ Some f
 left_is slots fields f e = first_left_is slots fields f slots e (in_of_times f slots (subst (λ n. 0 < n) (same_times (f ∷ fields) slots e f) (times_of_in f (f ∷ fields) (inl refl))))
 
-half : (n s : ℕ) → is_outward n s ≡ true → 2 * size s ≤ n
+pub half : (n s : ℕ) → is_outward n s ≡ true → 2 * size s ≤ n
 half n s e = ⊎_elim
     (λ (t : ltb (2 * size s) n ≡ true). let l : 2 * size s < n = grind (arith, nat_tests) in omega arith)
     (λ t. let q : eqb (2 * size s) n ≡ true = (both (eqb (2 * size s) n) (not (holds s 1)) t).0 in let l : 2 * size s ≡ n = grind (arith, nat_tests) in omega arith)
@@ -203,7 +203,7 @@ module _ (m : Model) (p : Process) (formed : IsWellFormed m) (is : IsProcessOf m
       by (leaf j) h = record { leg = j; low = h.0; high = h.1; is_leg = h.2 }
       by (join f v c bs) h = absurd (let many = fused_some r f v c h.0 node h.2 in let inner : is_inner node ≡ true = grind (arith, nat_tests) in true≢false (sym inner ∙ leg))
 
-  fields_at : (legs : List Leg) (k : ℕ) → slice_index_or (map (λ (leg : Leg). leg.field) legs) k 0 ≡ field_of_leg (slice_get legs k)
+  pub fields_at : (legs : List Leg) (k : ℕ) → slice_index_or (map (λ (leg : Leg). leg.field) legs) k 0 ≡ field_of_leg (slice_get legs k)
   fields_at [] k = refl
   fields_at (leg ∷ legs) zero = refl
   fields_at (leg ∷ legs) (suc k) = fields_at legs k

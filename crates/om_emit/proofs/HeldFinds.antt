@@ -1,8 +1,8 @@
 -- Whether the instructions of a code keep the rules, by what they find in its slots.
-use Rattle.std.proofs.Common.{◌≡◌, ℕ, suc, ◌+◌, ◌<◌, ◌≤◌, List, [], ◌∷◌, ◌++◌, inl, inr, ⊎_elim, length, map, get_or, set, Bool, true, false, cond, eqb, refl, sym, ◌∙◌, ap, ap₂, subst, arith}
+use Rattle.std.proofs.Common.{◌≡◌, ℕ, suc, ◌+◌, ◌<◌, ◌≤◌, List, [], ◌∷◌, ◌++◌, inl, inr, ⊎_elim, length, map, get_or, set, Bool, true, false, cond, refl, sym, ◌∙◌, ap, ap₂, subst, arith}
 use Rattle.std.specs.Prelude.{slice_get, ◌&&◌, ◌||◌, not, nat_lt, nat_le, ◌==◌}
 use Rattle.std.specs.List.{AllByRecursion, list_all, list_any}
-use Rattle.std.proofs.lemmas.Bool.{cases_eq, ne_eqb, eqb-true, eqb-false}
+use Rattle.std.proofs.lemmas.Bool.{cases_eq, ne_eqb}
 use Rattle.std.proofs.lemmas.Bool.Decides.{nat_tests}
 use Rattle.std.proofs.lemmas.List.{get_or-set_same, get_or-set_other, length-set, take-map}
 use Rattle.om_ring.specs.Members.{In}
@@ -158,7 +158,6 @@ module _ (c : Code) where
 
   readied : Held → Held
   readied h = record h { phase = Ready }
-
 
   shows_act : (st : List Held) (s : State Held (Unit {0})) (i : Instr) → NamesSlots c.slots i → Shows st s → Shows (after c st i) (act later (step i) s)
   unfolding act step held_meaning fused_held readied

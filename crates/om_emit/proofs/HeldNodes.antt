@@ -1,12 +1,11 @@
 -- The instructions of a graph find in the registers of its nodes what the rules ask for.
-use Rattle.std.proofs.Common.{◌≡◌, ℕ, suc, ◌+◌, ◌<◌, ◌≤◌, List, [], ◌∷◌, ◌++◌, ⊎_elim, ◌⊎◌, inl, inr, length, map, Bool, true, false, cond, eqb, refl, sym, ◌∙◌, ap, ap₂, subst, arith, true≢false}
-use Rattle.std.specs.Prelude.{Some, slice_get, ◌==◌, ◌&&◌, ◌||◌, not}
+use Rattle.std.proofs.Common.{◌≡◌, ℕ, suc, ◌+◌, ◌<◌, ◌≤◌, List, [], ◌∷◌, ◌++◌, ⊎_elim, ◌⊎◌, inl, inr, length, map, Bool, true, false, cond, refl, sym, ◌∙◌, ap, ap₂, subst, arith, true≢false}
+use Rattle.std.specs.Prelude.{Some, slice_get, ◌==◌}
 use Rattle.std.specs.List.{AllByRecursion, filter}
 use Rattle.std.proofs.lemmas.Bool.{cases_eq, eqb-true}
 use Rattle.std.proofs.lemmas.Bool.Decides.{nat_tests}
 use Rattle.std.proofs.lemmas.List.{map-append}
 use Rattle.std.proofs.lemmas.Option.{same_Some}
-use Rattle.om_ring.specs.Members.{In}
 use Rattle.om_legs.specs.Legs.{least}
 use Rattle.om_graph.specs.declared.Graph.{Graph}
 use Rattle.om_graph.specs.declared.Key.{Key}
@@ -18,7 +17,7 @@ use Rattle.om_keystone.proofs.Numbers.{At, at_none, at_more, at_of}
 use Rattle.om_code.specs.declared.code.Code.{Code}
 use Rattle.om_code.specs.declared.slots.Held.{Held}
 use Rattle.om_code.specs.declared.slots.Phase.TheVariants.{Gathering, Ready}
-use Rattle.om_code.specs.Ops.{Op, load, fuse, prop, key, step_of}
+use Rattle.om_code.specs.Ops.{Op, load, fuse, prop, step_of}
 use Rattle.om_code.specs.Registers.{State, Step, written, joined, act, run, look, Found, adds, begins, found, finds}
 use Rattle.om_code.specs.Rules.{adds_to, is_den_of, size_of}
 use Rattle.om_code.specs.Slots.{nodes_of}

@@ -1,10 +1,9 @@
 -- What nodes hold that share out some legs.
-use Rattle.std.proofs.Common.{◌≡◌, ℕ, zero, suc, ◌+◌, ◌<◌, ◌≤◌, List, [], ◌∷◌, length, map, Bool, true, false, ◌||◌, ◌&&◌, inl, inr, refl, sym, ◌∙◌, ap, ap₂, subst, arith}
+use Rattle.std.proofs.Common.{◌≡◌, ℕ, zero, suc, ◌+◌, ◌<◌, ◌≤◌, List, [], ◌∷◌, length, map, Bool, true, false, ◌||◌, inl, inr, refl, sym, ◌∙◌, ap, subst, arith}
 use Rattle.std.specs.Prelude.{nat_lt, slice_index, if◌then◌else◌}
-use Rattle.std.specs.List.Sorted.{IsStrictlyIncreasing}
 use Rattle.std.proofs.lemmas.Bool.Decides.{nat_tests}
 use Rattle.om_ring.specs.Members.{In}
-use Rattle.om_legs.specs.Legs.{IsLegSet, Meet, holds, least, union}
+use Rattle.om_legs.specs.Legs.{IsLegSet, holds, least, union}
 use Rattle.om_legs.specs.Splits.{IsSplit, times_held}
 use Rattle.om_legs.proofs.Bits.{bit, same_sets}
 use Rattle.om_legs.proofs.FirstPart.{times_held-cons, IsLegSet-part, part_filled}
@@ -78,7 +77,6 @@ apart_from before (k ∷ ks) x h few = (
     or_less : (a b : Bool) → bit (a || b) ≤ bit a + bit b
     or_less true b = omega arith
     or_less false b = omega arith
-
 
 pub record ShareOut (set : ℕ) (ks : List Key) : Type 0 where
   pub all : union_of 0 (map ready_held ks) ≡ set

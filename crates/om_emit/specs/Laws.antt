@@ -20,18 +20,20 @@ use Rattle.om_emit.specs.NodeCode.{Node, Keystone, IsGraphOf, graph_code, keysto
 
 -- the code of nodes, with the slots of any slot plan, gives the sums of their keystones
 abbrev pub CodeGivesKeystones : (W S : Type 0) → (W → W → W) → Type 0
-CodeGivesKeystones W S plus = (blank : W) (sums : S) (nodes : List (Node W)) (keystones : List (Keystone W S)) (wave : ℕ → W) (plan : ℕ → ℕ)
+CodeGivesKeystones W S plus =
+    (blank : W) (sums : S) (nodes : List (Node W)) (keystones : List (Keystone W S)) (wave : ℕ → W) (plan : ℕ → ℕ)
     → IsGraphOf plus blank nodes keystones wave → IsSlotPlan (lines_of (graph_code nodes keystones)) plan
     → (run plus (map (placed plan) (graph_code nodes keystones)) (start blank sums)).sums ≡ keystone_sums wave sums keystones
 
 -- the code of a graph, with the slots of any slot plan in place of its registers, gives the sums of its keystones from what its nodes
 -- hold
 abbrev pub GraphCodeGivesSums : (W S : Type 0) → (W → W → W) → Type 0
-GraphCodeGivesSums W S plus = (blank : W) (sums : S) (m : Meaning W S) (model : Model) (n : ℕ) (graph : Graph) (held : ℕ → W) (plan : ℕ → ℕ)
+GraphCodeGivesSums W S plus =
+    (blank : W) (sums : S) (m : Meaning W S) (model : Model) (n : ℕ) (graph : Graph) (held : ℕ → W) (plan : ℕ → ℕ)
     → IsBuilt graph → AreNodeContents {S = S} plus blank m (den_place model n graph) graph.terms held 0 graph.nodes
     → IsSlotPlan (register_lines model n graph) plan
     → (run plus (map (step_of m) (map (placed_op plan) (register_ops model n graph))) (start blank sums)).sums
-        ≡ closed_sums m held sums graph.keys
+    ≡ closed_sums m held sums graph.keys
 
 -- with the slots of any slot plan the instructions of a graph find what they found in the registers of its nodes, no slot gathers in
 -- the end, and no fuse has its own slot among its branches
@@ -41,13 +43,15 @@ pub record GraphKeepsFinds {W S : Type 0} (plus : W → W → W) (blank : W) (su
   pub apart : AreApart (map (placed plan) xs)
 
 abbrev pub GraphCodeKeepsFinds : (W S : Type 0) → (W → W → W) → Type 0
-GraphCodeKeepsFinds W S plus = (blank : W) (sums : S) (m : Meaning W S) (model : Model) (n : ℕ) (graph : Graph) (plan : ℕ → ℕ)
+GraphCodeKeepsFinds W S plus =
+    (blank : W) (sums : S) (m : Meaning W S) (model : Model) (n : ℕ) (graph : Graph) (plan : ℕ → ℕ)
     → IsBuilt graph → IsSlotPlan (register_lines model n graph) plan
     → GraphKeepsFinds plus blank sums (map (step_of m) (register_ops model n graph)) plan
 
 -- the code of a graph gives the sums of its keystones from what its nodes hold
 abbrev pub CodeGivesSums : (W S : Type 0) → (W → W → W) → Type 0
-CodeGivesSums W S plus = (blank : W) (sums : S) (m : Meaning W S) (model : Model) (process : Process) (graph : Graph) (code : Code) (held : ℕ → W)
+CodeGivesSums W S plus =
+    (blank : W) (sums : S) (m : Meaning W S) (model : Model) (process : Process) (graph : Graph) (code : Code) (held : ℕ → W)
     → IsCodeOf model process graph code → IsBuilt graph
     → AreNodeContents {S = S} plus blank m (den_place model (length process.legs) graph) graph.terms held 0 graph.nodes
     → (run plus (map (step_of m) (map op_of code.instrs)) (start blank sums)).sums ≡ closed_sums m held sums graph.keys
@@ -57,8 +61,8 @@ abbrev pub EmittedCodeGivesSums : {E : Type 0} → Ops E → Type 0
 EmittedCodeGivesSums {E} o =
     (model : Model) (process : Process) (graph : Graph) (code : Code) (t : Table E) (e : Incoming E) (held : ℕ → Content E)
     → IsCodeOf model process graph code → IsBuilt graph → (let m = code_meaning o code t e in
-        AreNodeContents {S = List E} (plus_content o code t e) (empty_content o code t e) m (den_place model (length process.legs) graph)
-        graph.terms held 0 graph.nodes
+    AreNodeContents {S = List E} (plus_content o code t e) (empty_content o code t e) m (den_place model (length process.legs) graph)
+    graph.terms held 0 graph.nodes
     → sums_of o code t e ≡ closed_sums m held (replicate (length code.flows) o.zero) graph.keys)
 
 -- the code of a graph has as many slots as the width of its instruction list, and no slot plan has fewer

@@ -65,7 +65,8 @@ keystone_sums wave sums [] = sums
 keystone_sums wave sums (y ∷ ys) = keystone_sums wave (y.summed (map wave y.branches) sums) ys
 
 -- a graph in which each node is built of earlier ones, with the waves of its nodes
-pub record IsGraphOf {W S : Type 0} (plus : W → W → W) (blank : W) (nodes : List (Node W)) (keystones : List (Keystone W S)) (wave : ℕ → W) : Type 0 where
+pub record IsGraphOf {W S : Type 0} (plus : W → W → W) (blank : W) (nodes : List (Node W)) (keystones : List (Keystone W S)) (wave : ℕ → W)
+    : Type 0 where
   pub built : AreBuilt 0 nodes
   pub closed : AllByRecursion (λ y. AllByRecursion (λ b. b < length nodes) y.branches) keystones
   pub waves : AreWaves plus blank wave 0 nodes

@@ -1,29 +1,36 @@
 //! The code of a canonical graph.
-ghost use Rattle.std.specs.Prelude.{◌≡◌, map, IfOk};
+ghost use Rattle.std.specs.Prelude.{◌≡◌, ◌<◌, ◌≤◌, length, map, IfOk};
+ghost use Rattle.std.specs.List.{AllByRecursion};
 ghost use Rattle.om_model.specs.ProcessOf.{IsProcessOf};
 ghost use Rattle.om_model.specs.WellFormed.{IsWellFormed};
 ghost use Rattle.om_graph.specs.Reactions.{reaction_of};
+ghost use Rattle.om_keystone.specs.Built.{IsBuilt};
 ghost use Rattle.om_keystone.specs.CanonicalGraph.{IsCanonicalOf};
+ghost use Rattle.om_emit.specs.Counts.{CountsNodes};
 ghost use Rattle.om_emit.specs.GraphCode.{IsCodeOf};
+ghost use Rattle.om_emit.specs.Laws.{HasFewestSlots};
 
 use crate::dens::{edges_above, listed};
 use crate::placed::placed_all;
 use crate::registers::register_code;
 use crate::slot_plan::first_fit;
 use om_code::{Code, Verified};
+use om_graph::Graph;
 use om_keystone::Pruned;
 use om_model::{Model, Process};
 use om_ring::{List, NoMemory};
 use std::alloc::Global;
 
-/// How many nodes and flows a graph may have, so that each has a number in a program.
+/// How many nodes and how many flows a graph may have, so that each has a number in a program.
 pub const MOST_NUMBERED: usize = 2_147_483_647;
 
 /// The code of the canonical graph of a process, in version 2: the loads of its legs, the terms of each inner node in order with its
-/// propagator behind them, and its keystone terms, with the slots of the first-fit plan in place of its registers.
+/// propagator behind them, and its keystone terms in order, with the slots of the first-fit plan in place of its registers, which are
+/// the numbers of its nodes.
 ///
-/// It keeps all rules of programs, so nothing is verified here. Takes time n log n in the graph. `NoMemory` is also the answer where the
-/// graph has more nodes or flows than a program has numbers for, far more than `build` lets through.
+/// It has as many slots as the width of its instruction list, and no slot plan of that list has fewer. It keeps all rules of programs,
+/// so nothing is verified again. Takes time n log n in the graph. `NoMemory` is also the answer where
+/// the graph has more nodes or flows than [`MOST_NUMBERED`], of which `build` makes none.
 pub fn emit(
     alloc: Global,
     model: &Model,
@@ -34,32 +41,48 @@ pub fn emit(
     requires process { IsProcessOf model.now process.now }
     requires canonical { IsCanonicalOf (reaction_of model.now process.now) pruned.now }
     ensures code { IfOk result (IsCodeOf model.now process.now pruned.now) }
+    ensures slots { IfOk result (HasFewestSlots model.now process.now pruned.now) }
 {
     let graph = pruned.graph();
-    let nodes = graph.nodes.as_slice();
-    if nodes.len() > MOST_NUMBERED || graph.flows.len() > MOST_NUMBERED {
+    if graph.nodes.len() > MOST_NUMBERED || graph.flows.len() > MOST_NUMBERED {
         return Err(NoMemory);
     }
+    let code = code_of(alloc, model, process, graph)?;
+    Ok(Verified::of(code))
+}
+
+// The code of a graph whose nodes are made of earlier ones.
+fn code_of(alloc: Global, model: &Model, process: &Process, graph: &Graph) -> Result<Code, NoMemory>
+    requires some { 0 < length process.now.legs }
+    requires within { length process.now.legs ≤ 12 }
+    requires few_nodes { length graph.now.nodes ≤ MOST_NUMBERED }
+    requires built { IsBuilt graph.now }
+    ensures code { IfOk result (IsCodeOf model.now process.now graph.now) }
+    ensures counted { IfOk result (λ code. AllByRecursion CountsNodes code.instrs) }
+{
     let particles = model.particles.as_slice();
     let n = process.legs.len() as u8;
+    let nodes = graph.nodes.as_slice();
     let edges = edges_above(alloc, particles, n, nodes)?;
     let dens = listed(alloc, &edges)?;
-    let registers = register_code(alloc, particles, n, dens.as_slice(), graph)?;
-    let plan = first_fit(alloc, registers.as_slice(), nodes.len() as u32)?;
-    let instrs = placed_all(alloc, registers.as_slice(), &plan)?;
-    let code = Code {
+    let in_order = dens.as_slice();
+    let registers = register_code(alloc, particles, n, in_order, graph)?;
+    let named = registers.as_slice();
+    let plan = first_fit(alloc, named, nodes.len() as u32)?;
+    let instrs = placed_all(alloc, named, &plan)?;
+    let slots = plan.count();
+    Ok(Code {
         version: 2,
         model: model.copy(alloc)?,
         legs: fields_of(alloc, process)?,
         flows: graph.flows.copy(alloc)?,
         dens,
-        slots: plan.count(),
+        slots,
         instrs,
-    };
-    Ok(Verified::of(code))
+    })
 }
 
-/// The field of each leg.
+// The field of each leg.
 fn fields_of(alloc: Global, process: &Process) -> Result<List<u16>, NoMemory>
     ensures { IfOk result (λ fields. fields ≡ map (λ leg. leg.field) process.now.legs) }
 {

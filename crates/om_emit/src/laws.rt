@@ -1,5 +1,4 @@
 //! Laws of the codes of graphs. Each is the contract of a function that does nothing.
-ghost use Rattle.om_emit.specs.CodesVerified.{CodesAreVerified};
 ghost use Rattle.om_emit.specs.EdgesAbove.{DensAreEdgesAbove};
 ghost use Rattle.om_emit.specs.Laws.{CodeGivesKeystones, CodeGivesSums, CodesHaveFewestSlots, EmittedCodeGivesSums, GraphCodeGivesSums, GraphCodeKeepsFinds};
 
@@ -43,11 +42,6 @@ pub fn codes_have_fewest_slots()
 /// The denominators of a graph are in order, each once, and are just the edges above its inner nodes.
 pub fn dens_are_edges_above()
     ensures { DensAreEdgesAbove }
-{}
-
-/// The code of a canonical graph, where its nodes and flows have numbers, has a text and keeps all rules of programs.
-pub fn codes_are_verified()
-    ensures { CodesAreVerified }
 {}
 
 /// The sums that the code of such a graph means are those of its keystones, from what its nodes hold.

@@ -15,3 +15,6 @@ mod slot_plan;
 
 pub use emitter::emit;
 pub use slot_plan::{SlotPlan, first_fit};
+
+#[cfg(test)]
+mod tests;

@@ -1,7 +1,9 @@
 //! Instructions with slots in place of registers.
-ghost use Rattle.std.specs.Prelude.{◌≡◌, map, IfOk};
+ghost use Rattle.std.specs.Prelude.{◌≡◌, map, length, IfOk};
+ghost use Rattle.std.specs.List.{AllByRecursion};
 ghost use Rattle.om_code.specs.Slots.{nodes_of};
 ghost use Rattle.om_emit.specs.Planning.{slot_in_plan};
+ghost use Rattle.om_emit.specs.Counts.{CountsNodes};
 ghost use Rattle.om_code.specs.Ops.{op_of, placed_op};
 
 use crate::slot_plan::SlotPlan;
@@ -16,7 +18,8 @@ pub(crate) fn placed_all(
     instrs: &[Instr],
     plan: &SlotPlan,
 ) -> Result<List<Instr>, NoMemory>
-    ensures { IfOk result (λ placed. map op_of placed ≡ map (placed_op (slot_in_plan plan.now)) (map op_of instrs.now)) }
+    ensures ops { IfOk result (λ placed. map op_of placed ≡ map (placed_op (slot_in_plan plan.now)) (map op_of instrs.now)) }
+    ensures counted { IfOk result (λ placed. AllByRecursion CountsNodes placed) }
 {
     let mut list = List::new(alloc);
     for instr in instrs {
@@ -26,7 +29,8 @@ pub(crate) fn placed_all(
 }
 
 fn placed(instr: &Instr, plan: &SlotPlan) -> Instr
-    ensures { op_of result ≡ placed_op (slot_in_plan plan.now) (op_of instr.now) }
+    ensures op { op_of result ≡ placed_op (slot_in_plan plan.now) (op_of instr.now) }
+    ensures counted { CountsNodes result }
 {
     match instr {
         Instr::Load { to, leg } => Instr::Load {
@@ -67,7 +71,8 @@ fn placed(instr: &Instr, plan: &SlotPlan) -> Instr
 }
 
 fn placed_branches(branches: &Branches, plan: &SlotPlan) -> Branches
-    ensures { nodes_of result ≡ map (slot_in_plan plan.now) (nodes_of branches.now) }
+    ensures nodes { nodes_of result ≡ map (slot_in_plan plan.now) (nodes_of branches.now) }
+    ensures counted { result.count ≡ length (nodes_of result) }
 {
     let [first, second, third, fourth] = branches.nodes;
     let (first, second) = (plan.slot(first), plan.slot(second));

@@ -43,7 +43,7 @@ pub(crate) fn register_code(
     Ok(instrs)
 }
 
-/// The terms from a place on.
+// The terms from a place on.
 fn terms_from(terms: &[Term], place: usize) -> &[Term]
     requires { place ≤ length terms.now }
     ensures { result.now ≡ drop place terms.now }
@@ -51,7 +51,7 @@ fn terms_from(terms: &[Term], place: usize) -> &[Term]
     &terms[place..]
 }
 
-/// Appends the instructions of a node whose terms stand at the front, and answers how many terms they are.
+// Appends the instructions of a node whose terms stand at the front, and answers how many terms they are.
 #[tactic(auto, unfolding(crate::specs::GraphWalk::step_ops, crate::specs::GraphWalk::step_rest))]
 fn push_node(
     instrs: &mut List<Instr>,
@@ -85,7 +85,7 @@ fn push_node(
     Ok(count)
 }
 
-/// Appends the terms of a node that stand at the front, and answers how many they are.
+// Appends the terms of a node that stand at the front, and answers how many they are.
 fn push_terms(instrs: &mut List<Instr>, terms: &[Term], number: u32) -> Result<usize, NoMemory>
     ensures ops { OnOk result (map op_of instrs.new ≡ map op_of instrs.old ++ map fuse_op (front number terms.now)) }
     ensures rest { IfOk result (λ count. drop count terms.now ≡ behind number terms.now) }

@@ -1,3 +1,4 @@
+//! The first-fit plan.
 ghost use Rattle.std.specs.Prelude.{◌≡◌, ◌^◌, ◌<◌, ◌≤◌, ℕ, true, length, IfOk, vec_len, All, slice_index_or};
 ghost use Rattle.om_code.specs.Spans.{is_named, width};
 ghost use Rattle.om_code.specs.SlotPlans.{first_fit, slot_or_0};
@@ -67,7 +68,7 @@ pub fn first_fit(alloc: Global, instrs: &[Instr], registers: u32) -> Result<Slot
     })
 }
 
-/// By register, the last instruction that names it.
+// By register, the last instruction that names it.
 fn last_uses(alloc: Global, instrs: &[Instr], registers: u32) -> Result<Vec<usize>, NoMemory>
     requires in_range { All (λ instr. All (λ r. r < registers) (registers_of instr)) instrs.now }
     ensures last { IfOk result (λ last. last.items ≡ last_uses registers (lines_of_code instrs.now) (length instrs.now)) }

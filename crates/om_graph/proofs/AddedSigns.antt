@@ -14,7 +14,7 @@ use Rattle.om_graph.specs.Search.{State, add, interned, place}
 use Rattle.om_graph.specs.SetWalk.{HasClosedSign, HasFoundSign, HasKeySign, HasTermSign, HaveSigns, KeysHaveSigns}
 use Rattle.om_graph.specs.Vertices.{Reaction, closed_minus, fused_minus}
 use Rattle.om_graph.proofs.Adding.{in_interned, interned_grows}
-use Rattle.om_graph.proofs.Lists.{in_either}
+use Rattle.om_ring.proofs.Members.{in_either}
 use Rattle.om_graph.proofs.Orders.{key_order}
 use Rattle.om_graph.proofs.Places.{all_left, get_left, place_gets}
 

@@ -8,8 +8,7 @@ use Rattle.om_graph.specs.Graph.{at_numbers}
 use Rattle.om_graph.specs.Loops.{CanMeet, CanMeetFrom, CanCloseAt, CanCloseFrom}
 use Rattle.om_graph.specs.Tuples.{tuples, numbers_over, met, met_from}
 use Rattle.om_graph.specs.Vertices.{Reaction}
-use Rattle.om_graph.proofs.Lists.{in_map}
-use Rattle.om_graph.proofs.Tuples.{in_flat_map}
+use Rattle.om_ring.proofs.Members.{in_map, in_flat_map}
 use Rattle.om_graph.proofs.Steps.{in_from}
 
 pub below_more : (n : ℕ) (ks : List ℕ) (k : ℕ) → AllBelow n ks → k < n → AllBelow n (ks ++ k ∷ [])

@@ -29,7 +29,7 @@ use Rattle.om_graph.specs.Tuples.{met_over_all}
 use Rattle.om_graph.specs.Vertices.{Reaction, closed_minus, fields_of, fusion, is_outward, keeps_edges}
 use Rattle.om_graph.proofs.Adding.{adding_is_step}
 use Rattle.om_graph.proofs.FoundMembers.{meets_closed}
-use Rattle.om_graph.proofs.Lists.{in_map}
+use Rattle.om_ring.proofs.Members.{in_map, from_flat_map}
 use Rattle.om_graph.proofs.Meetable.{can_close}
 use Rattle.om_graph.proofs.MeetingFields.{same_count}
 use Rattle.om_graph.proofs.Numbers.{found_order}
@@ -38,7 +38,6 @@ use Rattle.om_graph.proofs.SignedLists.{all_of_members, found_where, length_at_n
 use Rattle.om_graph.proofs.Sorted.{length-rising_of, sorted_is_rising, sorted_map}
 use Rattle.om_graph.proofs.SplitLists.{same_splits}
 use Rattle.om_graph.proofs.SplitMembers.{are_closings, closings_once}
-use Rattle.om_graph.proofs.Tuples.{from_flat_map}
 
 -- how nodes with these keys close to what was found
 record ClosedBy (r : Reaction) (is : List ℕ) (ks : List Key) (x : Signed Flow) : Type 0 where

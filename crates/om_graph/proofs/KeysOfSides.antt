@@ -27,7 +27,7 @@ use Rattle.om_model.proofs.AllDiagrams.{join_fits}
 use Rattle.om_model.proofs.EdgesUncut.{all_of, both_true}
 use Rattle.om_model.proofs.LegSets.{has_leg_set, leg_set_of_leaf}
 use Rattle.om_model.proofs.PartialJoins.{leg_has_partial, partial_is_followed}
-use Rattle.om_model.proofs.TidyTrees.{some_length}
+use Rattle.om_model.proofs.TidyTrees.{some_length, below, two_or_three, three_or_four}
 use Rattle.om_model.proofs.Whole.{full_of}
 use Rattle.om_graph.specs.declared.Key.{Key}
 use Rattle.om_graph.specs.Fusion.{HasKey, HaveKeys}
@@ -131,13 +131,6 @@ module _ (r : Reaction) (kinds : Kinds) (is : IsReaction r kinds) where
       → same_numbers (s.theory.anti f ∷ diagrams.fields_of s bs) (s.theory.slots v) ≡ true → fits_all s bs ≡ true → fits s (join f v c bs) ≡ true
   unfolding fits
   fits_of f v c bs a b d e g h i = rw (below f s.theory.fields a, below v s.theory.vertices b, below c (s.theory.choices v) d, two_or_three (count bs) e, g, h, i) refl
-    where
-      below : (a b : ℕ) → a < b → ltb a b ≡ true
-      below a b l = grind (arith, nat_tests)
-
-      two_or_three : (m : ℕ) → (m ≡ 2) ⊎ (m ≡ 3) → (eqb m 2 || eqb m 3) ≡ true
-      two_or_three m (inl e) = rw e refl
-      two_or_three m (inr e) = rw e refl
 
   pub split_in : (m set : ℕ) (bs : Branches) → IsSplit m set (sets_of (keys_of r bs)) → IsSplit m set (sets_in bs)
   split_in m set bs h = subst (IsSplit m set) (sets_are bs) h
@@ -185,13 +178,6 @@ module _ (r : Reaction) (kinds : Kinds) (is : IsReaction r kinds) where
       → same_numbers (diagrams.fields_of s bs) (s.theory.slots v) ≡ true → fits_all s bs ≡ true → same_numbers (legs_all bs) (upto s.size) ≡ true → is_opened s (record { vertex = v; choice = c; parts = bs }) ≡ true
   unfolding is_opened
   opened_of v c bs a b d e g h i = rw (below v s.theory.vertices a, below c (s.theory.choices v) b, three_or_four (count bs) d, e, g, h, i) refl
-    where
-      below : (a b : ℕ) → a < b → ltb a b ≡ true
-      below a b l = grind (arith, nat_tests)
-
-      three_or_four : (m : ℕ) → (m ≡ 3) ⊎ (m ≡ 4) → (eqb m 3 || eqb m 4) ≡ true
-      three_or_four m (inl e) = rw e refl
-      three_or_four m (inr e) = rw e refl
 
   -- the branches of a side are sides
   min_length : (bs : Branches) → fits_all s bs ≡ true → count bs ≤ length (legs_all bs)

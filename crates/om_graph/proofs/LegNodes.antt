@@ -29,7 +29,8 @@ use Rattle.om_graph.specs.SetSearch.{set_search, leg_keys, leg_state, outward_se
 use Rattle.om_graph.specs.TreeKeys.{IsReaction}
 use Rattle.om_graph.specs.Vertices.{Reaction, Fuses, fusion, leg_key}
 use Rattle.om_graph.proofs.KeysOfSides.{leg_subtree, side_of, outward_of}
-use Rattle.om_graph.proofs.Lists.{in_map, in_mapped, before_all}
+use Rattle.om_ring.proofs.Members.{in_map, in_mapped}
+use Rattle.om_graph.proofs.Lists.{before_all}
 use Rattle.om_graph.proofs.Adding.{interned_behind}
 use Rattle.om_graph.proofs.NodeRanges.{none_stand_last}
 use Rattle.om_graph.proofs.Orders.{key_order}
@@ -39,10 +40,7 @@ use Rattle.om_graph.proofs.SetNodes.NodeIs.{a_leg, a_join}
 use Rattle.om_graph.proofs.SetOrder.{IsInner, key_before, from_in-least, from_in-most, from_rises, outward_rise, outward_large, in_outward, ready}
 use Rattle.om_graph.proofs.Steps.{in_from}
 use Rattle.om_graph.proofs.TreeSplits.{all_holds}
-
-map_append : {A B : Type 0} (f : A → B) (xs ys : List A) → map f (xs ++ ys) ≡ map f xs ++ map f ys
-map_append f [] ys = refl
-map_append f (x ∷ xs) ys = ap (λ zs. f x ∷ zs) (map_append f xs ys)
+use Rattle.std.proofs.lemmas.List.{map-append}
 
 -- the sets of one leg
 pub leg_sets : ℕ → List ℕ
@@ -261,7 +259,7 @@ module _ (r : Reaction) where
 
   map_more : (a n : ℕ) → map (leg_key r) (counts_from a (suc n)) ≡ map (leg_key r) (counts_from a n) ++ leg_key r (a + n) ∷ []
   unfolding counts_from
-  map_more a n = map_append (leg_key r) (counts_from a n) ((a + n) ∷ [])
+  map_more a n = map-append (leg_key r) (counts_from a n) ((a + n) ∷ [])
 
   pub leg_more : (ns ms : List Key) (k : ℕ) (key : Key) → ns ≡ map (leg_key r) (counts_from 1 (k - 1)) → 1 ≤ k → k ≤ 12 → key ≡ leg_key r k → ms ≡ interned key_lt ns key → ms ≡ map (leg_key r) (counts_from 1 (k + 1 - 1))
   leg_more ns ms k key e l m q g =

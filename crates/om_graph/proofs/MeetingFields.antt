@@ -14,7 +14,7 @@ use Rattle.om_graph.specs.declared.fields.Meeting.{Meeting}
 use Rattle.om_graph.specs.Loops.{counts, left_over, meeting_at, meeting_with, meetings_of, one_or_none}
 use Rattle.om_graph.specs.Vertices.{Reaction}
 use Rattle.om_graph.proofs.MeetingLists.{counts_in}
-use Rattle.om_graph.proofs.Tuples.{from_flat_map}
+use Rattle.om_ring.proofs.Members.{from_flat_map}
 
 -- one more of a number
 counted : (f : ℕ) (fields : List ℕ) → times_in f (f ∷ fields) ≡ 1 + times_in f fields

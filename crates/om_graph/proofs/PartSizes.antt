@@ -8,7 +8,7 @@ use Rattle.om_legs.specs.Splits.{IsSplit}
 use Rattle.om_legs.proofs.FirstPart.{part_filled, IsLegSet-part}
 use Rattle.om_legs.proofs.ShareSums.{size_some}
 use Rattle.om_legs.proofs.SplitFacts.{sizes_of_parts}
-use Rattle.om_model.proofs.Membership.{in_map}
+use Rattle.om_ring.proofs.Members.{in_map}
 use Rattle.om_graph.specs.declared.Key.{Key}
 use Rattle.om_graph.specs.Vertices.{Reaction, Fuses, sets_of}
 

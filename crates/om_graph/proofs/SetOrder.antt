@@ -10,7 +10,7 @@ use Rattle.om_legs.proofs.Members.{Rising, Rising-append, Rising-flat_map}
 use Rattle.om_legs.proofs.ShareSums.{IsSubset_le}
 use Rattle.om_model.proofs.Counting.{both}
 use Rattle.om_model.proofs.EdgesUncut.{both_true}
-use Rattle.om_model.proofs.Membership.{in_map}
+use Rattle.om_ring.proofs.Members.{in_map, in_either, in_flat_map, from_flat_map}
 use Rattle.om_model.specs.Order.{numbers_lt}
 use Rattle.om_graph.specs.declared.Key.{Key}
 use Rattle.om_graph.specs.Caches.{counts_from}
@@ -18,10 +18,8 @@ use Rattle.om_graph.specs.Possible.{key_lt}
 use Rattle.om_graph.specs.Search.{Ready}
 use Rattle.om_graph.specs.SetSearch.{set_search, set_at, sets_of_size, outward_sets}
 use Rattle.om_graph.specs.Vertices.{Reaction, Fuses, fusion, is_outward, sets_of}
-use Rattle.om_graph.proofs.Lists.{in_either}
 use Rattle.om_graph.proofs.PartSizes.{fused_part}
 use Rattle.om_graph.proofs.Steps.{in_from}
-use Rattle.om_graph.proofs.Tuples.{in_flat_map, from_flat_map}
 
 abbrev pub IsBefore : ℕ → ℕ → Type 0
 IsBefore a b = (size a < size b) ⊎ ((size a ≡ size b) × (a < b))

@@ -31,7 +31,7 @@ use Rattle.om_graph.specs.Tuples.{met_over_all}
 use Rattle.om_graph.specs.Vertices.{Reaction, fields_of, fusion, fused_minus, is_outward, keeps_edges}
 use Rattle.om_graph.proofs.Adding.{adding_is_step}
 use Rattle.om_graph.proofs.FoundMembers.{meets_fused}
-use Rattle.om_graph.proofs.Lists.{in_map, in_mapped}
+use Rattle.om_ring.proofs.Members.{in_map, in_mapped, from_flat_map}
 use Rattle.om_graph.proofs.Meetable.{can_meet}
 use Rattle.om_graph.proofs.MeetingFields.{same_count}
 use Rattle.om_graph.proofs.NodeRanges.{none_stand_last}
@@ -42,7 +42,6 @@ use Rattle.om_graph.proofs.Numbers.{found_order}
 use Rattle.om_graph.proofs.SplitMembers.{is_search, found_once}
 use Rattle.om_graph.proofs.SplitLists.{same_splits}
 use Rattle.om_graph.proofs.Splits.{steps_count}
-use Rattle.om_graph.proofs.Tuples.{from_flat_map}
 
 -- how nodes with these keys make what was found
 record FusedBy (r : Reaction) (is : List ℕ) (ks : List Key) (x : Signed Key) : Type 0 where

@@ -11,9 +11,9 @@ use Rattle.om_graph.specs.Graph.{Found, and_then, at_numbers}
 use Rattle.om_graph.specs.Loops.{Signed}
 use Rattle.om_graph.specs.SetSearch.{found_in}
 use Rattle.om_graph.specs.Tuples.{met, met_by, met_from, met_over, met_over_all, tuples}
-use Rattle.om_graph.proofs.Lists.{in_either}
+use Rattle.om_ring.proofs.Members.{in_either, from_flat_map}
 use Rattle.om_graph.proofs.SetNodes.{then_some}
-use Rattle.om_graph.proofs.Tuples.{flat_map-same, from_flat_map, one_by_one}
+use Rattle.om_graph.proofs.Tuples.{flat_map-same, one_by_one}
 use Rattle.om_graph.proofs.VertexChoices.{map-flat_map}
 
 filtered : {A B : Type 0} (t : A → Bool) (f : A → List B) (xs : List A) → flat_map (λ x. cond (t x) (f x) []) xs ≡ flat_map f (filter t xs)

@@ -16,7 +16,7 @@ use Rattle.om_model.specs.Diagram.{all_in}
 use Rattle.om_model.specs.KeystoneForm.{HasFields}
 use Rattle.om_model.proofs.Counting.{both, times_of_in}
 use Rattle.om_model.proofs.EdgesUncut.{both_true}
-use Rattle.om_model.proofs.Membership.{in_filter}
+use Rattle.om_ring.proofs.Members.{in_filter, in_left, in_right, in_either, different_append, different_filter}
 use Rattle.om_graph.specs.declared.Key.{Key}
 use Rattle.om_graph.specs.Graph.{AreClosings}
 use Rattle.om_graph.specs.Loops.{fused_key, closed_flow}
@@ -26,22 +26,13 @@ use Rattle.om_graph.specs.SetSearch.{splits_of, uncut_splits, keystone_splits, c
 use Rattle.om_graph.specs.Splits.{IsSplitting}
 use Rattle.om_graph.specs.Vertices.{Reaction, Fuses, Closes, fusion, is_outward, keeps_edges, sets_of, fields_of, fused_slots, slot_partials, hole_of, union_of}
 use Rattle.om_graph.proofs.FoundMembers.{MakesKey, MakesFlow, meets_fused, meets_closed}
-use Rattle.om_graph.proofs.Lists.{in_left, in_right, in_either}
 use Rattle.om_graph.proofs.MeetingFields.{fills_slot}
 use Rattle.om_graph.proofs.Orders.{key_order}
 use Rattle.om_graph.proofs.SplitUnions.{union_is}
 use Rattle.om_graph.proofs.Splits.{split_search_is_exact}
-use Rattle.om_graph.proofs.Tuples.{different_append, tuples_meet_over_all}
+use Rattle.om_graph.proofs.Tuples.{tuples_meet_over_all}
 
-filter_different : {A : Type 0} (p : A → Bool) (xs : List A) → Different xs → Different (filter p xs)
-filter_different p [] d = tt
-filter_different p (x ∷ xs) d = by (p x) (filter_different p xs d.1)
-  where
-    by : (b : Bool) → Different (filter p xs) → Different (cond b (x ∷ filter p xs) (filter p xs))
-    by true e = ((λ i. d.0 ((in_filter p x xs).0 i).0), e)
-    by false e = e
-
-different_of : {A : Type 0} (xs : List A) → Rattle.om_legs.proofs.Members.Rising ◌≢◌ xs → Different xs
+pub different_of : {A : Type 0} (xs : List A) → Rattle.om_legs.proofs.Members.Rising ◌≢◌ xs → Different xs
 different_of [] h = tt
 different_of (x ∷ xs) h = ((λ i. h.0 x i refl), different_of xs h.1)
 
@@ -114,7 +105,7 @@ module _ (r : Reaction) where
       by false e = tt
       by true e =
           let w : IsLegSet s = ltb-true s 4096 (both (is_outward r.scattering.size s) (ltb s 4096) e).1 in
-          filter_different (λ ps. keeps_edges r (complement s r.scattering.size ∷ ps)) (pairs s ++ triples s) (both_different 2 3 s two_not_three (pairs s) (triples s) (AreSplits-pairs s w) (AreSplits-triples s w))
+          different_filter (λ ps. keeps_edges r (complement s r.scattering.size ∷ ps)) (pairs s ++ triples s) (both_different 2 3 s two_not_three (pairs s) (triples s) (AreSplits-pairs s w) (AreSplits-triples s w))
 
   -- the key by its parts
   key_by : (f v c : ℕ) (ks : List Key) (k : Key) (u : ℕ) → u ≡ k.legs → k.field ≡ f → (let slots = fused_slots r f v k.legs ks in k.partial ≡ joined (slot_partials slots) (r.choice v c) (hole_of slots))
@@ -218,7 +209,7 @@ module _ (r : Reaction) where
   keystones_once =
       let all = all_legs r.scattering.size in
       let w = IsLegSet-all_legs r.scattering.size in
-      filter_different (λ ps. all_in (is_outward r.scattering.size) ps && keeps_edges r ps) (triples all ++ quadruples all) (both_different 3 4 all three_not_four (triples all) (quadruples all) (AreSplits-triples all w) (AreSplits-quadruples all w))
+      different_filter (λ ps. all_in (is_outward r.scattering.size) ps && keeps_edges r ps) (triples all ++ quadruples all) (both_different 3 4 all three_not_four (triples all) (quadruples all) (AreSplits-triples all w) (AreSplits-quadruples all w))
 
   closes_makes : (v c : ℕ) (ks : List Key) (w : Flow) → Closes r v c ks w → MakesFlow r v c ks w × In (sets_of ks) (keystone_splits r)
   unfolding closed_flow

@@ -28,11 +28,6 @@ use Rattle.om_graph.specs.Vertices.{Reaction, branch, upward, fused_slots, close
 use Rattle.om_graph.proofs.TreeSplits.{AllSubtrees}
 use Rattle.om_graph.specs.TreeKeys.{colours_in, key_of, keys_of}
 
--- one after the other
-map_map : {A B C : Type 0} (f : A → B) (g : B → C) (xs : List A) → map g (map f xs) ≡ map (λ x. g (f x)) xs
-map_map f g [] = refl
-map_map f g (x ∷ xs) = ap (λ ys. g (f x) ∷ ys) (map_map f g xs)
-
 is_some : {A : Type 0} → Option A → Bool
 is_some None = false
 is_some (Some x) = true

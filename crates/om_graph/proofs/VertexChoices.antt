@@ -4,9 +4,8 @@ use Rattle.std.proofs.lemmas.Bool.{ltb-true, ltb-false}
 use Rattle.om_ring.specs.Members.{In, Different}
 use Rattle.om_graph.specs.Graph.{Found}
 use Rattle.om_graph.specs.Loops.{counts}
-use Rattle.om_graph.proofs.Lists.{in_left, in_right}
+use Rattle.om_ring.proofs.Members.{in_left, in_right, in_flat_map, from_flat_map, different_append, different_flat_map}
 use Rattle.om_graph.proofs.MeetingLists.{counts_in}
-use Rattle.om_graph.proofs.Tuples.{in_flat_map, from_flat_map, different_append, different_flat_map}
 
 pub in_counts : (v n : ℕ) → v < n → In v (counts n)
 unfolding counts
@@ -76,7 +75,7 @@ module _ {A M : Type 0} (vertices : ℕ) (choices : ℕ → ℕ) (test : ℕ →
 
   pub made_once : ((a : A) (v c : ℕ) → ((make a v c).vertex ≡ v) × ((make a v c).choice ≡ c)) → Different made_everywhere
   unfolding made_everywhere at_vertex
-  made_once tells = different_flat_map (λ v. at_vertex v (test v)) (counts vertices) (counts_different vertices) (λ v i. each v (test v)) (λ v w x i j. sym (is_at v (test v) x i) ∙ is_at w (test w) x j)
+  made_once tells = different_flat_map (λ v. at_vertex v (test v)) (counts vertices) (counts_different vertices) (λ v i. each v (test v)) (λ v w x _ _ i j. sym (is_at v (test v) x i) ∙ is_at w (test w) x j)
     where
       choice_of : (a : A) (v c : ℕ) (x : Found M) → In x (make a v c ∷ []) → x.choice ≡ c
       choice_of a v c x (inl e) = ap (λ (y : Found M). y.choice) e ∙ (tells a v c).1
@@ -84,7 +83,7 @@ module _ {A M : Type 0} (vertices : ℕ) (choices : ℕ → ℕ) (test : ℕ →
 
       each : (v : ℕ) (o : Option A) → Different (at_vertex v o)
       each v None = tt
-      each v (Some a) = different_flat_map (λ c. make a v c ∷ []) (counts (choices v)) (counts_different (choices v)) (λ c i. ((λ b. b), tt)) (λ c d x i j. sym (choice_of a v c x i) ∙ choice_of a v d x j)
+      each v (Some a) = different_flat_map (λ c. make a v c ∷ []) (counts (choices v)) (counts_different (choices v)) (λ c i. ((λ b. b), tt)) (λ c d x _ _ i j. sym (choice_of a v c x i) ∙ choice_of a v d x j)
 
       vertex_of : (a : A) (v c : ℕ) (x : Found M) → In x (make a v c ∷ []) → x.vertex ≡ v
       vertex_of a v c x (inl e) = ap (λ (y : Found M). y.vertex) e ∙ (tells a v c).0

@@ -20,7 +20,7 @@ use Rattle.om_graph.specs.SetWalk.{CanCloseAll, CanWalk, HasClosed, HasKeySign, 
 use Rattle.om_graph.specs.TreeKeys.{IsReaction}
 use Rattle.om_graph.specs.Vertices.{Reaction, closed_minus, fused_minus, fusion}
 use Rattle.om_graph.proofs.KeyStep.{numbered-length}
-use Rattle.om_graph.proofs.Lists.{in_mapped}
+use Rattle.om_ring.proofs.Members.{in_mapped, map-map}
 use Rattle.om_graph.proofs.LegNodes.{all_sets, leg_sets, legs_done, sets_ready}
 use Rattle.om_graph.proofs.Orders.{flow_order}
 use Rattle.om_graph.proofs.SetNodes.{in_by_number}
@@ -128,10 +128,6 @@ map_back : {A : Type 0} (f : A → A) (xs : List A) → ((x : A) → In x xs →
 map_back f [] h = refl
 map_back f (x ∷ xs) h = ap₂ ◌∷◌ (h x (inl refl)) (map_back f xs (λ y i. h y (inr i)))
 
-map_twice : {A B C : Type 0} (f : B → C) (g : A → B) (xs : List A) → map f (map g xs) ≡ map (λ x. f (g x)) xs
-map_twice f g [] = refl
-map_twice f g (x ∷ xs) = ap (λ ys. f (g x) ∷ ys) (map_twice f g xs)
-
 module _ (r : Reaction) (ns : List Key) where
   minus_of : ℕ → Option Key → Option (List Key) → Bool
   minus_of v None ks = false
@@ -176,13 +172,13 @@ module _ (r : Reaction) (kinds : Kinds) (is : IsReaction r kinds) where
   terms_back : map unsigned (map (term_of r (all_nodes r).nodes) (all_nodes r).terms) ≡ (all_nodes r).terms
   unfolding term_of
   terms_back =
-      map_twice unsigned (term_of r (all_nodes r).nodes) (all_nodes r).terms
+      map-map unsigned (term_of r (all_nodes r).nodes) (all_nodes r).terms
       ∙ map_back (λ x. unsigned (term_of r (all_nodes r).nodes x)) (all_nodes r).terms (λ x i. ap (λ (l : List ℕ). record { made = x.made; vertex = x.vertex; choice = x.choice; branches = l }) (few_branches x i))
 
   keys_back : map unsigned_key (map (key_term_of r (all_nodes r).nodes) keys_all) ≡ keys_all
   unfolding key_term_of
   keys_back =
-      map_twice unsigned_key (key_term_of r (all_nodes r).nodes) keys_all
+      map-map unsigned_key (key_term_of r (all_nodes r).nodes) keys_all
       ∙ map_back (λ y. unsigned_key (key_term_of r (all_nodes r).nodes y)) keys_all (λ y i. ap (λ (l : List ℕ). record { made = y.made; vertex = y.vertex; choice = y.choice; branches = l }) (few_parts y i))
 
   term_signs : HaveSigns r (all_nodes r).nodes (map (term_of r (all_nodes r).nodes) (all_nodes r).terms)

@@ -5,3 +5,4 @@ pub mod Parts
 pub mod SinkInMemory
 pub mod SourceInMemory
 pub mod Told
+pub mod Outlets

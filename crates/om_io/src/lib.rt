@@ -4,10 +4,14 @@
 //! of it. Counts of faults are always known. A counter that has reached `2^64 - 1` stands still.
 #![tactic(auto)]
 
+#[cfg(test)]
+mod adapter_tests;
 mod adapters;
+mod buffer;
 mod calls;
 mod folder;
 mod memory;
+mod rows;
 mod sink;
 mod source;
 mod sure;
@@ -16,8 +20,10 @@ mod tests;
 mod whole;
 
 pub use adapters::{StdFolder, StdSink, StdSource};
+pub use buffer::{ROOM_BYTES, flush, make_room};
 pub use folder::Folder;
 pub use memory::{MemFolder, MemSink, MemSource};
+pub use rows::{RowKind, write_each, write_rows};
 pub use sink::Sink;
 pub use source::Source;
 pub use sure::{SureFolder, SureSink, SureSource};

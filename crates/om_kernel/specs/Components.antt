@@ -44,8 +44,8 @@ module _ {E : Type 0} (o : Ops E) where
   plain_dot p q = p.t ⊗ q.t ⊕ (p.x ⊗ q.x ⊕ (p.y ⊗ q.y ⊕ p.z ⊗ q.z))
 
   -- p + q
-  abbrev pub plus : Four E → Four E → Four E
-  plus p q = record { t = p.t ⊕ q.t; x = p.x ⊕ q.x; y = p.y ⊕ q.y; z = p.z ⊕ q.z }
+  abbrev pub plus_four : Four E → Four E → Four E
+  plus_four p q = record { t = p.t ⊕ q.t; x = p.x ⊕ q.x; y = p.y ⊕ q.y; z = p.z ⊕ q.z }
 
   -- p - q
   abbrev pub difference : Four E → Four E → Four E
@@ -134,4 +134,4 @@ module _ {E : Type 0} (o : Ops E) where
       let first = difference p.momentum q.momentum in
       let second = difference q.momentum h in
       lowered (
-      along (c ⊗ opposite_dot (plus first second) q.wave) (along (c ⊗ dot second p.wave) (scaled (c ⊗ dot p.wave q.wave) first) q.wave) p.wave)
+      along (c ⊗ opposite_dot (plus_four first second) q.wave) (along (c ⊗ dot second p.wave) (scaled (c ⊗ dot p.wave q.wave) first) q.wave) p.wave)

@@ -2,7 +2,7 @@
 ghost use Rattle.std.specs.Prelude.{◌≡◌, ◌+◌, ◌*◌, ◌≤◌};
 ghost use Rattle.om_kernel.specs.Components.{join_pairs, three_gluons};
 
-use crate::vectors::{along, difference, dot, lowered, opposite_dot, plus, scaled};
+use crate::vectors::{along, difference, dot, lowered, opposite_dot, plus_four, scaled};
 use om_lorentz::Four;
 use om_ring::ring::Ring;
 use om_ring::steps::Steps;
@@ -67,7 +67,7 @@ pub(crate) fn three_gluons<R: Ring<Mark = L>, L>(
 {
     let first = difference(ring, &p.momentum, &q.momentum, steps);
     let second = difference(ring, &q.momentum, hole, steps);
-    let both = plus(ring, &first, &second, steps);
+    let both = plus_four(ring, &first, &second, steps);
     let pq = dot(ring, &p.wave, &q.wave, steps);
     let of_second = dot(ring, &second, &p.wave, steps);
     let of_third = opposite_dot(ring, &both, &q.wave, steps);

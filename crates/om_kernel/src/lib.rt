@@ -19,11 +19,16 @@ pub mod vertices;
 pub mod waves;
 
 pub use edges::propagate;
+pub use vectors::plus_four;
 pub use vertices::{close, fuse};
 pub use waves::{Slot, Slots, Wave};
 
 #[cfg(test)]
 mod edge_tests;
+#[cfg(test)]
+mod test_slots;
+#[cfg(test)]
+mod test_sums;
 #[cfg(test)]
 mod test_waves;
 #[cfg(test)]

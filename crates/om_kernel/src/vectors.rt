@@ -1,6 +1,6 @@
 //! Sums and products of vectors by components.
 ghost use Rattle.std.specs.Prelude.{◌≡◌, ◌+◌, ◌*◌, ◌≤◌};
-ghost use Rattle.om_kernel.specs.Components.{along, difference, dot, lower_difference, lowered, opposite_dot, plain_dot, plus, scaled, scaled_lower};
+ghost use Rattle.om_kernel.specs.Components.{along, difference, dot, lower_difference, lowered, opposite_dot, plain_dot, plus_four, scaled, scaled_lower};
 
 use om_lorentz::Four;
 use om_ring::ring::Ring;
@@ -77,13 +77,13 @@ pub(crate) fn plain_dot<R: Ring<Mark = L>, L>(
 
 /// p + q.
 #[inline(always)]
-pub(crate) fn plus<R: Ring<Mark = L>, L>(
+pub fn plus_four<R: Ring<Mark = L>, L>(
     ring: &R,
     p: &Four<R::E>,
     q: &Four<R::E>,
     steps: &mut Steps<L>,
 ) -> Four<R::E>
-    ensures value { result ≡ plus (R.ops ring.now) p.now q.now }
+    ensures value { result ≡ plus_four (R.ops ring.now) p.now q.now }
     ensures at_most { steps.new ≤ steps.old + 4 * R.cost ring.now }
 {
     Four {
@@ -212,5 +212,5 @@ pub(crate) fn along<R: Ring<Mark = L>, L>(
     ensures at_most { steps.new ≤ steps.old + 8 * R.cost ring.now }
 {
     let part = scaled(ring, c, q, steps);
-    plus(ring, p, &part, steps)
+    plus_four(ring, p, &part, steps)
 }

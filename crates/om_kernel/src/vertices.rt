@@ -43,16 +43,6 @@ pub fn fuse<R: Ring<Mark = L>, L>(
     fused(ring, structure, reading, factors, slots, hole, steps)
 }
 
-/// The number of the last slot of a vertex.
-pub(crate) fn last_slot(structure: Structure) -> u8
-    ensures { result ≡ slot_count structure }
-{
-    match structure {
-        Structure::Ssss | Structure::Vvss | Structure::Vvvv | Structure::Gluon4 => 4,
-        _ => 3,
-    }
-}
-
 /// The product of a wave and the wave in a slot, summed over their index.
 fn contracted<R: Ring<Mark = L>, L>(
     ring: &R,
@@ -92,7 +82,7 @@ pub fn close<R: Ring<Mark = L>, L>(
     ensures at_most { steps.new ≤ steps.old + calls_to_close structure * R.cost ring.now }
     ensures few { steps.new ≤ steps.old + 700 * R.cost ring.now }
 {
-    let last = last_slot(structure);
+    let last = structure.slot_count();
     let wave = fused(ring, structure, reading, factors, slots, last, steps);
     contracted(ring, &wave, slots, last, steps)
 }

@@ -10,7 +10,7 @@ use Rattle.om_legs.specs.Legs as sets
 use Rattle.om_model.specs.Order.{Rising, BeforeAll}
 use Rattle.om_model.specs.FermionLines.{Kinds}
 use Rattle.om_model.specs.ModelLines.{kinds_of}
-use Rattle.om_model.proofs.Membership.{in_map, in_filter}
+use Rattle.om_ring.proofs.Members.{in_map, in_filter, in_mapped}
 use Rattle.om_graph.specs.declared.Graph.{Graph}
 use Rattle.om_graph.specs.declared.Key.{Key}
 use Rattle.om_graph.specs.declared.KeyTerm.{KeyTerm}
@@ -27,7 +27,6 @@ use Rattle.om_keystone.specs.CanonicalGraph.{IsCanonicalOf}
 use Rattle.om_keystone.specs.Laws.{CanonicalIsBuilt}
 use Rattle.om_keystone.proofs.Built.{is_built_up}
 use Rattle.om_keystone.proofs.KeyedAnswer.{IsInner}
-use Rattle.om_graph.proofs.Lists.{in_mapped}
 use Rattle.om_keystone.proofs.Nodes.{leg_or_inner}
 use Rattle.om_keystone.proofs.ReachedPart.{made_rises}
 use Rattle.om_keystone.proofs.Reaching.{IsBuiltUp}

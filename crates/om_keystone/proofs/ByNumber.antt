@@ -15,7 +15,7 @@ use Rattle.om_model.specs.FeynmanRules.{FeynmanRules}
 use Rattle.om_model.specs.Lines.{Lines}
 use Rattle.om_model.specs.Answer.{Answer, IsAnswer}
 use Rattle.om_model.specs.Answer.Answer.{unbalanced, pole, values}
-use Rattle.om_model.proofs.Membership.{in_flat_map}
+use Rattle.om_ring.proofs.Members.{in_flat_map, from_flat_map, different_flat_map}
 use Rattle.om_model.proofs.Rising.{numbers_order}
 use Rattle.om_model.specs.Opened.{Opened}
 use Rattle.om_graph.specs.Fusion.{Fusion}
@@ -33,7 +33,6 @@ use Rattle.om_keystone.proofs.ModelRules.{KeyView, model_rules, AreSigns, ShowsP
 use Rattle.om_keystone.proofs.KeyedAnswer.{IsCanonical, same_by, terms_of, keys_of, graph_values, KeyedAnswers}
 use Rattle.om_keystone.proofs.NumberedAnswer.{term_value_at, key_value_at, AreWavesAt, values_at, NumberedAnswers}
 use Rattle.om_keystone.specs.NodeWaves.{keys_at, indices_at, meet_at}
-use Rattle.om_keystone.proofs.Members.{from_flat_map, different_flat_map}
 use Rattle.om_keystone.proofs.Reached.{prune_is_exact}
 use Rattle.om_keystone.proofs.Grown.{same_by_is, is_same_by}
 use Rattle.om_keystone.proofs.Numbers.{keys_are, At, at_of, of_at, at_all, number_once}

@@ -21,13 +21,12 @@ use Rattle.om_model.specs.ColourLines.{flow_at}
 use Rattle.om_model.specs.FermionLines.{Kinds}
 use Rattle.om_model.specs.LegSets.{leg_set}
 use Rattle.om_model.proofs.Counting.{both, of_all_in}
-use Rattle.om_model.proofs.Membership.{in_map}
+use Rattle.om_ring.proofs.Members.{in_map, in_mapped}
 use Rattle.om_model.proofs.EdgesUncut.{all_of, both_true}
 use Rattle.om_model.proofs.OpenedEdges.{opened_counts}
 use Rattle.om_model.proofs.SpelledFacts.{opened_facts}
 use Rattle.om_keystone.specs.InDiagrams.{IsOpened}
 use Rattle.om_keystone.proofs.Forms.{IsForm}
-use Rattle.om_graph.proofs.Lists.{in_mapped}
 use Rattle.om_graph.specs.Vertices.{Reaction, Closes, fusion, is_outward, sets_of, keeps_edges, lies_in}
 use Rattle.om_graph.specs.TreeKeys.{colours_in, IsReaction, keys_of}
 use Rattle.om_graph.proofs.TreeSplits.{AllSubtrees, sets_in, split_of, split_ordered, split_whole, whole_times}

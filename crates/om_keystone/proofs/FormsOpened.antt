@@ -21,7 +21,7 @@ use Rattle.om_model.specs.ModelLines.{lines_by}
 use Rattle.om_model.specs.TwoSided.{IsTwoSided}
 use Rattle.om_model.specs.KeystoneForm.{HasFields, IsKeystoneForm}
 use Rattle.om_model.specs.Hung.{hung}
-use Rattle.om_model.proofs.Membership.{in_left, in_right, in_either, in_map}
+use Rattle.om_ring.proofs.Members.{in_left, in_right, in_either, in_map, in_mapped}
 use Rattle.om_model.proofs.KeystoneForms.{opened_is_diagram, one_keystone_form}
 use Rattle.om_model.proofs.HungLaws.{opened_has_value, opened_has_sign, opened_has_flow}
 use Rattle.om_model.proofs.FormSums.{opened_has_names}
@@ -31,7 +31,6 @@ use Rattle.om_keystone.proofs.Standing.{Stands, Within}
 use Rattle.om_keystone.proofs.ModelRules.{KeyView, odd_all, IsJoin, AreOpenedDiagrams}
 use Rattle.om_keystone.proofs.ModelRules.IsJoin.{is_join}
 use Rattle.om_keystone.proofs.Forms.{TellsForms}
-use Rattle.om_graph.proofs.Lists.{in_mapped}
 
 own_edge : (u : Tree) → IsJoin u → In u (edges u)
 unfolding edges

@@ -17,7 +17,7 @@ use Rattle.om_model.specs.Answer.{Answer}
 use Rattle.om_model.specs.Answer.Answer.{unbalanced, pole, values}
 use Rattle.om_model.specs.ModelLines.{kinds_of}
 use Rattle.om_model.specs.Entries.{feynman_rules}
-use Rattle.om_model.proofs.Membership.{in_map}
+use Rattle.om_ring.proofs.Members.{in_map}
 use Rattle.om_graph.specs.declared.Graph.{Graph}
 use Rattle.om_graph.specs.declared.Key.{Key}
 use Rattle.om_graph.specs.declared.KeyTerm.{KeyTerm}

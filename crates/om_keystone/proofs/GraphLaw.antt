@@ -17,7 +17,7 @@ use Rattle.om_model.specs.Answer.{Answer, same_flow, HasPole, flows, value_of_fl
 use Rattle.om_model.specs.Diagrams.{AreDiagrams}
 use Rattle.om_model.proofs.AllDiagrams.{only_one}
 use Rattle.om_model.specs.Answer.Answer.{unbalanced, pole, values}
-use Rattle.om_model.proofs.Membership.{in_map, in_filter}
+use Rattle.om_ring.proofs.Members.{in_map, in_filter, map-map, different_map, in_mapped, different_filter}
 use Rattle.om_model.proofs.Rising.{rising_unique, rising_of_rising, in_rising_of, numbers_order}
 use Rattle.om_model.specs.Opened.{Opened}
 use Rattle.om_graph.specs.Fusion.{Fusion, HasKey}
@@ -29,12 +29,9 @@ use Rattle.om_keystone.proofs.ModelRules.{KeyView, model_rules, AreSigns, ShowsP
 use Rattle.om_keystone.specs.EdgeRules.{name_of}
 use Rattle.om_keystone.proofs.ModelRules.IsJoin.{is_join}
 use Rattle.om_keystone.proofs.KeyedAnswer.{IsCanonical, same_by, terms_of, keys_of, IsInner, AreWaves, HasKeyedPole, graph_values, KeyedAnswers}
-use Rattle.om_keystone.proofs.Members.{map_map, different_map}
-use Rattle.om_graph.proofs.Lists.{in_mapped}
 use Rattle.om_keystone.proofs.Standing.{standing, stood}
 use Rattle.om_keystone.proofs.Reached.{prune_is_exact, seen_here}
 use Rattle.om_keystone.proofs.Grown.{same_by_is, is_same_by}
-use Rattle.om_keystone.proofs.Members.{different_filter}
 use Rattle.om_keystone.proofs.NodeSums.{opened_exist, flow_is_sum, minus_zero}
 use Rattle.om_keystone.proofs.ModelWaves.{name_is, signed_wave, are_tree_waves, opened_sum}
 
@@ -162,7 +159,7 @@ module _ {K F : Type 0} (p : Fusion K F) (lt : K → K → Bool) (order : IsOrde
         flow_is_sum o l p lt order rank ok (λ k. In k ns) terms are_terms (model_rules o s r e view) tree_wave tree_waves node waves most (λ k i. below_total rank ns k i) (λ a. diagram_value (hung a)) (opened_values balanced) u (keys u) (are_keys u) list found.1
         ∙ sym (sum_over-map o hung list diagram_value)
         ∙ sum_over-same_members o l diagram_value (map hung list) (with_flow u)
-        (different_map hung list found.1.once (λ a b i j h. opens.one_keystone a b u u ((found.1.members a).0 i) ((found.1.members b).0 j) h))
+        (different_map hung list (λ a b i j h. opens.one_keystone a b u u ((found.1.members a).0 i) ((found.1.members b).0 j) h) found.1.once)
         (different_filter (λ t. same_flow (w.flow t) (ends u)) ts once) (
           (λ t i. let m = in_mapped hung t list i in let P : Tree → Type 0 = λ x. In x (with_flow u) in subst P (sym m.2) (to_flow u m.0 ((found.1.members m.0).0 m.1))),
           (λ t i. let k = from_flow u t i in let P : Tree → Type 0 = λ x. In x (map hung list) in subst P k.2 (in_map hung k.0 list ((found.1.members k.0).1 k.1))),
@@ -183,7 +180,7 @@ module _ {K F : Type 0} (p : Fusion K F) (lt : K → K → Bool) (order : IsOrde
     pub values_are : Balances o e s.size → graph_values o s r e p view ends keys ws node ≡ values_of o s r w e ts
     values_are balanced =
         map_same (λ u. (ends u, sum_over o (keys u) (keyed_key_value o (model_rules o s r e view) p node))) (λ u. (ends u, value_of_flow o s r w e ts (ends u))) (λ u. ap (λ x. (ends u, x)) (flow_value balanced u)) ws
-        ∙ sym (map_map (λ flow. (flow, value_of_flow o s r w e ts flow)) ends ws)
+        ∙ sym (map-map (λ flow. (flow, value_of_flow o s r w e ts flow)) ends ws)
         ∙ ap (map (λ flow. (flow, value_of_flow o s r w e ts flow))) flows_are
 
     inner_join : (t : Tree) → (k : K) → IsInner p k → HasKey p t k → IsJoin t

@@ -7,15 +7,13 @@ use Rattle.om_model.specs.Tree.Tree.{leaf, join}
 use Rattle.om_model.specs.Tree.Branches.{none, and}
 use Rattle.om_model.specs.Diagram.{upto}
 use Rattle.om_model.specs.Order.{IsOrder}
-use Rattle.om_model.proofs.Membership.{in_left, in_right, in_either, in_map, in_flat_map, in_filter}
+use Rattle.om_ring.proofs.Members.{in_left, in_right, in_either, in_map, in_flat_map, in_filter, different_filter, from_flat_map, different_append, different_map, different_flat_map, in_mapped}
 use Rattle.om_model.proofs.Counting.{in_upto}
 use Rattle.om_graph.specs.Fusion.{Fusion, HasKey, HaveKeys}
 use Rattle.om_graph.proofs.SetNodes.{nodes_of}
 use Rattle.om_keystone.specs.InDiagrams.{TermOf}
 use Rattle.om_keystone.proofs.Reaching.{IsPossibleTerm, IsSettled}
 use Rattle.om_keystone.proofs.KeyedWaves.{AreTermsOf}
-use Rattle.om_keystone.proofs.Members.{different_filter, from_flat_map, different_append, different_map, different_flat_map}
-use Rattle.om_graph.proofs.Lists.{in_mapped}
 use Rattle.om_keystone.proofs.Reached.{same_keys}
 
 from_upto : (x m : ℕ) → 0 < x → x ≤ m → In x (upto m)
@@ -71,7 +69,7 @@ pub choose_differ : {K : Type 0} (g : K → List Tree) (ks : List K) → ((k : K
 unfolding choose head tail
 choose_differ g [] d = ((λ i. i), tt)
 choose_differ g (k ∷ ks) d = different_flat_map (λ t. map (and t) (choose g ks)) (g k) (d k (inl refl))
-    (λ t i. different_map (and t) (choose g ks) (choose_differ g ks (λ j a. d j (inr a))) (λ x y _ _ e. ap tail e))
+    (λ t i. different_map (and t) (choose g ks) (λ x y _ _ e. ap tail e) (choose_differ g ks (λ j a. d j (inr a))))
     (λ t u bs _ _ i j. let a = in_mapped (and t) bs (choose g ks) i in let b = in_mapped (and u) bs (choose g ks) j in ap head (sym a.2 ∙ b.2))
 
 module _ {K F : Type 0} (p : Fusion K F) where
@@ -174,12 +172,12 @@ module _ {K F : Type 0} (p : Fusion K F) (lt : K → K → Bool) (order : IsOrde
   grown_differ zero k a h = tt
   grown_differ (suc n) k a h =
       different_append (map leaf (legs_with p lt terms k)) (flat_map (joins p.field (grown p lt terms n)) (terms k))
-      (different_map leaf (legs_with p lt terms k) (legs_differ k) (λ i j _ _ e. ap leg_of e))
+      (different_map leaf (legs_with p lt terms k) (λ i j _ _ e. ap leg_of e) (legs_differ k))
       (different_flat_map (joins p.field (grown p lt terms n)) (terms k) (are.once k)
       (λ x i. let q = (are.members k a x).0 i in
       different_map (join (p.field x.node) x.vertex x.choice) (choose (grown p lt terms n) x.branches)
-      (choose_differ (grown p lt terms n) x.branches (λ b j. grown_differ n b (here x b q j) (lesser n x b q.0 (up x q) j)))
-      (λ bs cs _ _ e. ap branches_of e))
+      (λ bs cs _ _ e. ap branches_of e)
+      (choose_differ (grown p lt terms n) x.branches (λ b j. grown_differ n b (here x b q j) (lesser n x b q.0 (up x q) j))))
       one)
       (λ t i j.
       let b = in_mapped leaf t (legs_with p lt terms k) i in

@@ -21,32 +21,12 @@ use Rattle.om_model.specs.LegSets.{leg_set}
 use Rattle.om_model.proofs.Filling.{carry, in_slots-map, in_slots_filled}
 use Rattle.om_model.proofs.Reordering.{in-reordered}
 use Rattle.om_model.proofs.Parity.{cross-append_right}
-use Rattle.om_model.proofs.LegSets.{cross_is, crossings_by_sets}
+use Rattle.om_model.proofs.LegSets.{cross_is, crossings_by_sets, odd_sum}
 use Rattle.om_graph.specs.declared.Key.{Key}
 use Rattle.om_graph.specs.Vertices.{Reaction, fused_minus, closed_minus, slot_crossings, crossings_with, legs_in}
 use Rattle.om_graph.specs.TreeKeys.{IsReaction, keys_of}
 use Rattle.om_graph.proofs.TreeSplits.{AllSubtrees}
 use Rattle.om_graph.proofs.TreeSlots.{trees_in, key_in, joined_slots, fused_slots_are, closed_slots_are, fields_trees, at_up, fit}
-
--- crossings modulo 2
-is_odd_of : (n : ℕ) (b : Bool) → n % 2 ≡ cond b 1 0 → is_odd n ≡ b
-is_odd_of n true e = rw e refl
-is_odd_of n false e = rw e refl
-
-remainder : (n : ℕ) → (n % 2 ≡ 0) ⊎ (n % 2 ≡ 1)
-remainder n = by (n % 2) (omega arith)
-  where
-    by : (m : ℕ) → m < 2 → (m ≡ 0) ⊎ (m ≡ 1)
-    by m l = grind arith
-
-odd_sum : (m n : ℕ) → is_odd (m + n) ≡ xor (is_odd m) (is_odd n)
-odd_sum m n = by (remainder m) (remainder n)
-  where
-    by : (m % 2 ≡ 0) ⊎ (m % 2 ≡ 1) → (n % 2 ≡ 0) ⊎ (n % 2 ≡ 1) → is_odd (m + n) ≡ xor (is_odd m) (is_odd n)
-    by (inl e) (inl f) = is_odd_of (m + n) false (omega arith) ∙ sym (ap₂ xor (is_odd_of m false e) (is_odd_of n false f))
-    by (inl e) (inr f) = is_odd_of (m + n) true (omega arith) ∙ sym (ap₂ xor (is_odd_of m false e) (is_odd_of n true f))
-    by (inr e) (inl f) = is_odd_of (m + n) true (omega arith) ∙ sym (ap₂ xor (is_odd_of m true e) (is_odd_of n false f))
-    by (inr e) (inr f) = is_odd_of (m + n) false (omega arith) ∙ sym (ap₂ xor (is_odd_of m true e) (is_odd_of n true f))
 
 cross_none : (xs : List ℕ) → cross xs [] ≡ false
 cross_none [] = refl

@@ -1,4 +1,3 @@
-pub mod Members
 pub mod KeystoneLists
 pub mod Standing
 pub mod Reaching

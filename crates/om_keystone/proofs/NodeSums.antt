@@ -6,7 +6,7 @@ use Rattle.om_ring.specs.Ops.{Ops, Laws, signed}
 use Rattle.om_ring.specs.Sums.{sum_over}
 use Rattle.om_ring.proofs.RingLemmas.{minus_plus, minus_unique}
 use Rattle.om_ring.proofs.SumLemmas.{sum_over-same, sum_over-ext, sum_over-map, sum_over-flat_map, times-sum_over, sum_over-times, sums_exchange, sum_over-same_members}
-use Rattle.om_model.proofs.Membership.{in_map, in_flat_map}
+use Rattle.om_ring.proofs.Members.{in_map, in_flat_map, from_flat_map, different_map, different_flat_map, in_mapped}
 use Rattle.om_model.specs.Tree.{Tree, Branches}
 use Rattle.om_model.specs.Tree.Tree.{leaf, join}
 use Rattle.om_model.specs.Tree.Branches.{and}
@@ -17,8 +17,6 @@ use Rattle.om_graph.proofs.SetNodes.{nodes_of}
 use Rattle.om_keystone.specs.InDiagrams.{TermOf, KeyTermOf, IsOpened}
 use Rattle.om_keystone.proofs.Reaching.{IsPossibleTerm, IsSettled}
 use Rattle.om_keystone.proofs.KeyedWaves.{KeyRules, meet, meet_trees, AreTreeWaves, AreOpenedValues, keyed_term_value, keyed_key_value, AreKeyedWaves, AreTermsOf, AreKeysOf, AreOpenedOf}
-use Rattle.om_keystone.proofs.Members.{from_flat_map, different_map, different_flat_map}
-use Rattle.om_graph.proofs.Lists.{in_mapped}
 use Rattle.om_keystone.proofs.Reached.{same_keys}
 use Rattle.om_keystone.proofs.Grown.{choose, joins, grown, legs_with, leg_with, legs_differ, from_grown, in_grown, grown_differ, in_choose, chosen, choose_differ, lesser}
 
@@ -171,8 +169,8 @@ module _ {E : Type 0} (o : Ops E) (l : Laws o) where
       opened_differ =
           different_flat_map (opened_by most) ys keys.once
           (λ y m. different_map (λ bs. let a : Opened = record { vertex = y.vertex; choice = y.choice; parts = bs } in a) (choose (grown p lt terms most) y.branches)
-          (choose_differ (grown p lt terms most) y.branches (λ b j. grown_differ p lt order rank ok kept terms are most b (keys.branches y b m j) (below b (keys.branches y b m j))))
-          (λ bs cs _ _ e. ap (λ (a : Opened). a.parts) e))
+          (λ bs cs _ _ e. ap (λ (a : Opened). a.parts) e)
+          (choose_differ (grown p lt terms most) y.branches (λ b j. grown_differ p lt order rank ok kept terms are most b (keys.branches y b m j) (below b (keys.branches y b m j)))))
           (λ y z a m n i j.
           let u = in_mapped (λ bs. let a : Opened = record { vertex = y.vertex; choice = y.choice; parts = bs } in a) a (choose (grown p lt terms most) y.branches) i in
           let t = in_mapped (λ bs. let a : Opened = record { vertex = z.vertex; choice = z.choice; parts = bs } in a) a (choose (grown p lt terms most) z.branches) j in

@@ -6,7 +6,7 @@ use Rattle.std.proofs.lemmas.Bool.{lt-ltb}
 use Rattle.std.proofs.lemmas.Bool.Decides.{nat_tests}
 use Rattle.om_ring.specs.Members.{In}
 use Rattle.om_model.specs.Order.{IsOrder, BeforeAll, Rising, numbers_lt}
-use Rattle.om_model.proofs.Membership.{in_filter}
+use Rattle.om_ring.proofs.Members.{in_filter}
 use Rattle.om_graph.specs.Graph.{and_then, at_numbers}
 use Rattle.om_graph.proofs.SetNodes.{then_some, some_then, number_of}
 use Rattle.om_keystone.specs.NodeWaves.{one_or_none, keys_at}

@@ -5,7 +5,7 @@ use Rattle.om_ring.specs.Members.{In}
 use Rattle.om_legs.specs.Legs as sets
 use Rattle.om_model.specs.FermionLines.{Kinds}
 use Rattle.om_model.specs.ModelLines.{kinds_of}
-use Rattle.om_model.proofs.Membership.{in_map}
+use Rattle.om_ring.proofs.Members.{in_map, in_mapped}
 use Rattle.om_graph.specs.declared.Graph.{Graph}
 use Rattle.om_graph.specs.declared.Key.{Key}
 use Rattle.om_graph.specs.declared.KeyTerm.{KeyTerm}
@@ -20,7 +20,6 @@ use Rattle.om_graph.proofs.HaveReactions.{well_formed_have_reactions}
 use Rattle.om_keystone.specs.CanonicalGraph.{IsCanonicalOf}
 use Rattle.om_keystone.specs.Laws.{CanonicalIsPartOfPossible}
 use Rattle.om_keystone.specs.PartOf.{StandsIn, KeyStandsIn}
-use Rattle.om_graph.proofs.Lists.{in_mapped}
 use Rattle.om_keystone.proofs.Numbers.{of_at, at_all}
 use Rattle.om_graph.proofs.SetNodes.{number_of, in_by_number}
 use Rattle.om_keystone.proofs.Reached.{node_among, prune_is_exact}

@@ -4,7 +4,7 @@ use Rattle.std.specs.Prelude.{slice_index}
 use Rattle.std.proofs.lemmas.Option.{same_Some, slice_get_within}
 use Rattle.om_ring.specs.Members.{In}
 use Rattle.om_model.specs.Order.{IsOrder, BeforeAll, Rising, numbers_lt}
-use Rattle.om_model.proofs.Membership.{in_map, in_filter}
+use Rattle.om_ring.proofs.Members.{in_map, in_filter, in_mapped}
 use Rattle.om_graph.specs.Fusion.{Fusion, IsNode, AllNodes}
 use Rattle.om_graph.proofs.SetNodes.{nodes_of}
 use Rattle.om_keystone.specs.InDiagrams.{TermOf, KeyTermOf, IsOutward, IsFlowMet}
@@ -15,7 +15,6 @@ use Rattle.om_graph.specs.Graph.{at_numbers, Numbered, numbered_lt, IsTerm, IsKe
 use Rattle.om_keystone.specs.CanonicalGraph.{IsMetAt, IsKeyMetAt}
 use Rattle.om_keystone.proofs.Reaching.{BranchesFirst, ReachedIsCanonical}
 use Rattle.om_keystone.specs.Pruning.{is_marked, marks_of, marked_of, numbers_from, new_number, renumbered, renumbered_key, kept_terms}
-use Rattle.om_graph.proofs.Lists.{in_mapped}
 use Rattle.om_keystone.proofs.Reached.{node_among, prune_is_exact, grow}
 use Rattle.om_keystone.proofs.Numbers.{At, at_of, of_at, at_number, at_member, at_all, rising_at, number_less, number_once, kept_at, from_kept, rising_kept, rising_filter, rising_mapped, numbers_cases, numbers_first, numbers_rest, numbers_map}
 use Rattle.om_graph.proofs.SetNodes.{number_of, in_by_number}

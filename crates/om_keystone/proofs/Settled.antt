@@ -16,7 +16,7 @@ use Rattle.om_model.specs.Order.{numbers_lt}
 use Rattle.om_model.specs.Tree.{legs}
 use Rattle.om_model.specs.Tree.Tree.{leaf}
 use Rattle.om_model.specs.FermionLines.{Kinds}
-use Rattle.om_model.proofs.Membership.{in_map}
+use Rattle.om_ring.proofs.Members.{in_map}
 use Rattle.om_model.proofs.LegSets.{has_leg_set, leg_set_of_leaf}
 use Rattle.om_graph.specs.declared.Graph.{Graph}
 use Rattle.om_graph.specs.declared.Key.{Key}
@@ -28,21 +28,7 @@ use Rattle.om_graph.specs.Vertices.{Reaction, Fuses, fusion, sets_of, fused_slot
 use Rattle.om_graph.specs.Possible.{key_lt, IsPossible}
 use Rattle.om_graph.specs.TreeKeys.{IsReaction}
 use Rattle.om_graph.proofs.KeysOfSides.{leg_subtree}
-
--- of numbers above 0
-sum_least : (f : ℕ → ℕ) (xs : List ℕ) → ((x : ℕ) → In x xs → 0 < f x) → length xs ≤ sum_by f xs
-sum_least f [] h = omega arith
-sum_least f (x ∷ xs) h = let a = h x (inl refl) in let b = sum_least f xs (λ y i. h y (inr i)) in omega (arith, a, b, sum_by-cons f x xs)
-
-member_least : (f : ℕ → ℕ) (xs : List ℕ) (x : ℕ) → In x xs → f x ≤ sum_by f xs
-member_least f [] x i = elim i [ ]
-member_least f (y ∷ xs) x (inl e) = let q = ap f e in omega (arith, q, sum_by-cons f y xs)
-member_least f (y ∷ xs) x (inr i) = omega (arith, member_least f xs x i, sum_by-cons f y xs)
-
-member_less : (f : ℕ → ℕ) (xs : List ℕ) (x : ℕ) → In x xs → 2 ≤ length xs → ((x : ℕ) → In x xs → 0 < f x) → f x < sum_by f xs
-member_less f [] x i l h = elim i [ ]
-member_less f (y ∷ xs) x (inl e) l h = let q = ap f e in let a = sum_least f xs (λ y i. h y (inr i)) in omega (arith, q, a, l, sum_by-cons f y xs)
-member_less f (y ∷ xs) x (inr i) l h = let a = h y (inl refl) in omega (arith, a, member_least f xs x i, sum_by-cons f y xs)
+use Rattle.om_graph.proofs.PartSizes.{fused_part, fused_some}
 
 bit_same : (a b : Bool) → bit a ≡ bit b → a ≡ b
 bit_same true true e = refl
@@ -53,31 +39,7 @@ bit_same false true e = absurd (omega (arith, e))
 same_split : (c a b : ℕ) (parts : List ℕ) → IsSplit c a parts → IsSplit c b parts → a ≡ b
 same_split c a b parts h g = same_sets a b (λ leg. bit_same (sets.holds a leg) (sets.holds b leg) (sym (h.shared leg) ∙ g.shared leg))
 
-at_least_two : {m : ℕ} → (m ≡ 2) ⊎ (m ≡ 3) → 2 ≤ m
-at_least_two (inl e) = omega arith
-at_least_two (inr e) = omega arith
-
-split_sizes : (c set : ℕ) (parts : List ℕ) → (c ≡ 2) ⊎ (c ≡ 3) → sets.IsLegSet set → IsSplit c set parts → sum_by sets.size parts ≡ sets.size set
-split_sizes c set parts (inl e) w h = sizes_of_parts 1 set parts w (subst (λ m. IsSplit m set parts) e h)
-split_sizes c set parts (inr e) w h = sizes_of_parts 2 set parts w (subst (λ m. IsSplit m set parts) e h)
-
-part_sizes : (c set : ℕ) (parts : List ℕ) → sets.IsLegSet set → IsSplit c set parts → (x : ℕ) → In x parts → 0 < sets.size x
-part_sizes c set parts w h x i = size_some x (part_filled c set parts h x i) (IsLegSet-part c set parts w h x i)
-
 module _ (r : Reaction) where
-  fused_part : (f v c : ℕ) (ks : List Key) (k b : Key) → Fuses r f v c ks k → In b ks → sets.size b.legs < sets.size k.legs
-  fused_part f v c ks k b h i =
-      subst (λ m. sets.size b.legs < m) (split_sizes (length ks) k.legs (sets_of ks) h.counted h.legs h.split)
-      (member_less sets.size (sets_of ks) b.legs (in_map (λ (k : Key). k.legs) b ks i) (let l = at_least_two h.counted in subst (λ m. 2 ≤ m) (sym h.split.counted) l) (part_sizes (length ks) k.legs (sets_of ks) h.legs h.split))
-
-  fused_some : (f v c : ℕ) (ks : List Key) (k : Key) → Fuses r f v c ks k → 1 < sets.size k.legs
-  fused_some f v c ks k h =
-      let a = sum_least sets.size (sets_of ks) (part_sizes (length ks) k.legs (sets_of ks) h.legs h.split) in
-      let b = at_least_two h.counted in
-      let e = split_sizes (length ks) k.legs (sets_of ks) h.counted h.legs h.split in
-      let m = h.split.counted in
-      omega (arith, a, b, e, m)
-
   fused_once : (f v c : ℕ) (ks : List Key) (j k : Key) → Fuses r f v c ks j → Fuses r f v c ks k → j ≡ k
   fused_once f v c ks j k h g = by j k (same_split (length ks) j.legs k.legs (sets_of ks) h.split g.split) (h.has_field ∙ sym g.has_field)
       (h.partial ∙ ap (λ x. let slots = fused_slots r f v x ks in joined (slot_partials slots) (r.choice v c) (hole_of slots)) (same_split (length ks) j.legs k.legs (sets_of ks) h.split g.split) ∙ sym g.partial)
@@ -87,7 +49,7 @@ module _ (r : Reaction) where
 
   pub branches_first : BranchesFirst (fusion r) key_lt
   unfolding key_lt numbers_lt
-  branches_first f v c ks k b h i = by (sets.size b.legs) (sets.size k.legs) _ (fused_part f v c ks k b h i)
+  branches_first f v c ks k b h i = by (sets.size b.legs) (sets.size k.legs) _ (fused_part r f v c ks k b h i)
     where
       by : (x y : ℕ) (z : Bool) → x < y → cond (ltb x y) true z ≡ true
       by x y z l = let e : ltb x y ≡ true = grind (arith, nat_tests) in rw e refl
@@ -117,7 +79,7 @@ module _ (r : Reaction) where
       has_field = λ f v c ks k h. h.has_field;
       fuse_once = fused_once;
       leg_rank = one_leg;
-      fused_rank = fused_some;
-      rises = fused_part;
+      fused_rank = fused_some r;
+      rises = fused_part r;
       legs_differ = λ i j a b c d e. differ i j a b c d (ap (λ (k : Key). k.legs) e);
     }

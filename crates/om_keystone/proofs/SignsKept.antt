@@ -3,14 +3,13 @@ use Rattle.std.proofs.Common.{◌≡◌, ℕ, suc, List, [], ◌∷◌, map, fil
 use Rattle.std.proofs.lemmas.Option.{same_Some}
 use Rattle.om_ring.specs.Members.{In}
 use Rattle.om_model.specs.Order.{IsOrder}
-use Rattle.om_model.proofs.Membership.{in_map, in_filter}
+use Rattle.om_ring.proofs.Members.{in_map, in_filter, map-map}
 use Rattle.om_colour.specs.declared.Flow.{Flow}
 use Rattle.om_graph.specs.declared.Graph.{Graph}
 use Rattle.om_graph.specs.declared.Key.{Key}
 use Rattle.om_graph.specs.declared.KeyTerm.{KeyTerm}
 use Rattle.om_graph.specs.declared.Term.{Term}
 use Rattle.om_graph.specs.Fusion.{Fusion}
-use Rattle.om_keystone.proofs.Members.{map_map}
 use Rattle.om_keystone.proofs.Reaching.{IsSettled}
 use Rattle.om_graph.specs.Graph.{at_numbers, Numbered, IsGraph}
 use Rattle.om_keystone.specs.CanonicalGraph.{IsCanonicalGraph, HasSigns}
@@ -69,7 +68,7 @@ module _ (p : Fusion Key Flow) (lt : Key → Key → Bool) (order : IsOrder lt) 
 
   terms_same : map unsigned new.terms ≡ map (λ x. renumbered numbers (unsigned x)) (filter (λ (x : Term). is_marked marks x.node) old.terms)
   unfolding kept_terms
-  terms_same = part.terms ∙ ap (map (renumbered numbers)) (filter_map (λ (x : Numbered). is_marked marks x.made) unsigned old.terms) ∙ map_map (renumbered numbers) unsigned (filter (λ (x : Term). is_marked marks x.node) old.terms)
+  terms_same = part.terms ∙ ap (map (renumbered numbers)) (filter_map (λ (x : Numbered). is_marked marks x.made) unsigned old.terms) ∙ map-map (renumbered numbers) unsigned (filter (λ (x : Term). is_marked marks x.node) old.terms)
 
   term_sign : (x : Term) (k : Key) (ks : List Key) → In x new.terms → slice_get new.nodes x.node ≡ Some k → at_numbers new.nodes (nodes_at x.branches) ≡ Some ks → x.minus ≡ minus x.vertex k ks
   unfolding kept_signs
@@ -84,7 +83,7 @@ module _ (p : Fusion Key Flow) (lt : Key → Key → Bool) (order : IsOrder lt) 
       ∙ ap (λ v. minus v t.node t.branches) (sym (ap (λ (z : Numbered). z.vertex) s.3)) ∙ ap₂ (minus x.vertex) (sym node) (sym branches)
 
   keys_same : map unsigned_key new.keys ≡ map (λ y. renumbered_key numbers (unsigned_key y)) old.keys
-  keys_same = part.keys ∙ map_map (renumbered_key numbers) unsigned_key old.keys
+  keys_same = part.keys ∙ map-map (renumbered_key numbers) unsigned_key old.keys
 
   key_sign : (y : KeyTerm) (ks : List Key) → In y new.keys → at_numbers new.nodes (nodes_at y.branches) ≡ Some ks → y.minus ≡ closed_minus y.vertex ks
   key_sign y ks i g =

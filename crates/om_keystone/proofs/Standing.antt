@@ -5,7 +5,7 @@ use Rattle.om_model.specs.Tree.{Tree, Branches}
 use Rattle.om_model.specs.Tree.Tree.{leaf, join}
 use Rattle.om_model.specs.Tree.Branches.{none, and}
 use Rattle.om_model.specs.Outward.{subtrees, subtrees_all}
-use Rattle.om_model.proofs.Membership.{in_left, in_right, in_either}
+use Rattle.om_ring.proofs.Members.{in_left, in_right, in_either}
 
 -- t is one of the branches, or hangs from one of them
 abbrev mutual

@@ -15,7 +15,7 @@ use Rattle.om_model.specs.ModelLines.{kinds_of}
 use Rattle.om_model.specs.Entries.{feynman_rules}
 use Rattle.om_model.specs.Model.{scattering_of}
 use Rattle.om_model.specs.Value.{vertex_entry}
-use Rattle.om_model.proofs.Membership.{in_map, in_filter}
+use Rattle.om_ring.proofs.Members.{in_map, in_filter}
 use Rattle.om_graph.specs.declared.Graph.{Graph}
 use Rattle.om_graph.specs.declared.Key.{Key}
 use Rattle.om_graph.specs.declared.Term.{Term}

@@ -1,7 +1,9 @@
 //! The canonical graph out of the possible one.
 ghost use Rattle.std.specs.Prelude.{◌≡◌, ◌≤◌, IfOk, length, map};
+ghost use Rattle.om_graph.specs.Graph.{numbered_lt};
 ghost use Rattle.om_graph.specs.Possible.{IsPossible, nodes_at, unsigned, unsigned_key};
 ghost use Rattle.om_graph.specs.Reactions.{reaction_of};
+ghost use Rattle.om_model.specs.Order.{Rising};
 ghost use Rattle.om_model.specs.WellFormed.{IsWellFormed};
 ghost use Rattle.om_model.specs.ProcessOf.{IsProcessOf};
 ghost use Rattle.om_keystone.specs.CanonicalGraph.{IsCanonicalOf};
@@ -15,24 +17,31 @@ use om_ring::{List, NoMemory};
 use std::alloc::Global;
 use std::marker::Model;
 
-/// A graph that was pruned. Contracts see it as the graph.
+/// A graph that was pruned. Contracts see it as the graph, whose terms stand in order.
 #[derive(Drop)]
 pub struct Pruned {
     graph: Graph,
 }
 
 impl Model for Pruned {
+    ghost use Rattle.std.specs.Prelude.{map};
+    ghost use Rattle.om_model.specs.Order.{Rising};
+    ghost use Rattle.om_graph.specs.Graph.{numbered_lt};
+    ghost use Rattle.om_graph.specs.Possible.{unsigned};
     ghost use Rattle.om_graph.specs.declared.Graph.{Graph};
 
     ghost Value = { Graph };
 
     ghost view = { λ pruned. pruned.graph };
+
+    ghost invariant = { λ pruned. Rising numbered_lt (map unsigned pruned.graph.terms) };
 }
 
 impl Pruned {
     /// The graph.
     pub fn graph(&self) -> &Graph
-        ensures { result.now ≡ self.now }
+        ensures graph { result.now ≡ self.now }
+        ensures order { Rising numbered_lt (map unsigned self.now.terms) }
     {
         &self.graph
     }

@@ -1,4 +1,6 @@
 //! The structures of vertices, the spins of their slots, and what a vertex is read with.
+ghost use Rattle.std.specs.Prelude.{◌≡◌};
+ghost use Rattle.om_lorentz.specs.Structures.{factor_count, slot_count, spins};
 
 /// The Lorentz structure of a vertex: the spins of its slots, in order, and how they are joined.
 ///
@@ -26,6 +28,52 @@ pub enum Structure {
     Vvvv,
     /// Four vectors, joined as four gluons of one cyclic order are.
     Gluon4,
+}
+
+impl Structure {
+    /// The spins of the slots, in order.
+    pub fn spins(self) -> &'static [Spin]
+        ensures { result.now ≡ spins self }
+    {
+        match self {
+            Structure::Sss => &[Spin::Scalar, Spin::Scalar, Spin::Scalar],
+            Structure::Ssss => &[Spin::Scalar, Spin::Scalar, Spin::Scalar, Spin::Scalar],
+            Structure::Vss => &[Spin::Vector, Spin::Scalar, Spin::Scalar],
+            Structure::Vvs => &[Spin::Vector, Spin::Vector, Spin::Scalar],
+            Structure::Vvss => &[Spin::Vector, Spin::Vector, Spin::Scalar, Spin::Scalar],
+            Structure::Ffs => &[Spin::Dirac, Spin::Dirac, Spin::Scalar],
+            Structure::Ffv => &[Spin::Dirac, Spin::Dirac, Spin::Vector],
+            Structure::Vvv => &[Spin::Vector, Spin::Vector, Spin::Vector],
+            Structure::Vvvv | Structure::Gluon4 => &[
+                Spin::Vector,
+                Spin::Vector,
+                Spin::Vector,
+                Spin::Vector,
+            ],
+        }
+    }
+
+    /// How many slots a vertex of the structure has.
+    #[inline(always)]
+    pub fn slot_count(self) -> u8
+        ensures { result ≡ slot_count self }
+    {
+        match self {
+            Structure::Ssss | Structure::Vvss | Structure::Vvvv | Structure::Gluon4 => 4,
+            _ => 3,
+        }
+    }
+
+    /// How many factors a vertex of the structure has.
+    pub fn factor_count(self) -> usize
+        ensures { result ≡ factor_count self }
+    {
+        match self {
+            Structure::Ffs | Structure::Ffv => 2,
+            Structure::Vvvv => 3,
+            _ => 1,
+        }
+    }
 }
 
 /// The spin of a field. A scalar has the index 0 alone, all else the indices 0 to 3.

@@ -27,6 +27,12 @@ pub use loading::{LoadFault, load};
 pub use machine::Machine;
 
 #[cfg(test)]
+mod loading_tests;
+#[cfg(test)]
 mod test_codes;
+#[cfg(test)]
+mod test_events;
+#[cfg(test)]
+mod test_models;
 #[cfg(test)]
 mod tests;

@@ -2,10 +2,9 @@
 ghost use Rattle.std.specs.Prelude.{◌≡◌, ◌≢◌, ℕ, ◌+◌, ◌*◌, ◌≤◌, length, None, slice_get, MatchOption, MatchResult};
 ghost use Rattle.om_lorentz.specs.declared.structures.Spin.TheVariants.{Vector};
 ghost use Rattle.om_lorentz.specs.Propagators.{MassAgrees};
-ghost use Rattle.om_model.specs.Rules.{HasFactorWithoutValue, HasLengths, HasNoInverse};
+ghost use Rattle.om_model.specs.Rules.{HasFactorWithoutValue, HasLength, HasLengths, HasNoInverse};
 ghost use Rattle.std.specs.List.{AllByRecursion};
 ghost use Rattle.om_code.specs.Verified.{IsVerified};
-ghost use Rattle.om_code.specs.Plain.{IsProduct};
 ghost use Rattle.om_machine.specs.Rows.{HasFactors, HasMasses, HaveFactors, HaveMasses, IsParticleFault, IsVertexFault, product_or_zero};
 
 use crate::LoadFault;
@@ -129,7 +128,7 @@ fn factors_of<R: Ring<Mark = L>, L>(
     steps: &mut Steps<L>,
 ) -> Option<Factors<R::E>>
     requires few { length vertex.now.factors ≤ 3 }
-    requires short { AllByRecursion IsProduct vertex.now.factors }
+    requires short { AllByRecursion HasLength vertex.now.factors }
     ensures value { let o = R.ops ring.now in MatchOption result (HasFactorWithoutValue o vertex.now.factors) (HasFactors o vertex.now) }
     ensures at_most { steps.new ≤ steps.old + 200 * R.cost ring.now }
 {
@@ -146,7 +145,7 @@ fn factor_of<R: Ring<Mark = L>, L>(
     k: usize,
     steps: &mut Steps<L>,
 ) -> Option<R::E>
-    requires { AllByRecursion IsProduct vertex.now.factors }
+    requires { AllByRecursion HasLength vertex.now.factors }
     ensures value { result ≡ product_or_zero (R.ops ring.now) (slice_get vertex.now.factors k) }
     ensures at_most { steps.new ≤ steps.old + 40 * R.cost ring.now }
 {

@@ -1,12 +1,15 @@
 //! Two programs as values: four scalars, and electrons to muons.
+ghost use Rattle.std.specs.Prelude.{◌^◌, ◌<◌, IsTrue};
+ghost use Rattle.om_code.specs.Lines.{line_count};
 
-use om_code::{Code, Den, Instr};
-use om_colour::{Colour, Flow};
+use crate::test_models::{listed, muon_model, scalar_model};
+use om_code::{Code, Den, Instr, Verified, is_plain, verify};
+use om_colour::Flow;
 use om_legs::{Branches, LegSet};
-use om_lorentz::{Spin, Structure};
-use om_model::{Model, Name, Particle, Product, Vertex};
-use om_ring::{List, read_numeral};
+use om_ring::List;
 use std::alloc::Global;
+use std::process::Abort;
+use std::test::Fail;
 
 /// Which of the two.
 #[derive(Clone, Copy, Debug)]
@@ -15,145 +18,15 @@ pub(crate) enum Program {
     Muons,
 }
 
+/// No row is bad.
+pub(crate) const NOWHERE: usize = 99;
+
 /// The program, with a numeral that has no value in a particle or vertex row, counted from 0, where there is such a row.
 pub(crate) fn code_of(alloc: Global, which: Program, bad: usize) -> Option<Code> {
     match which {
         Program::Scalars => scalar_code(alloc, bad),
         Program::Muons => muon_code(alloc, bad),
     }
-}
-
-// A numeral without value: its denominator is 0 in the ring.
-const WITHOUT: &str = "1/18446744069414584321";
-
-// The text of a number in a row, counted from 0, where one row is bad.
-fn number(row: usize, bad: usize) -> &'static str {
-    if row == bad { WITHOUT } else { "1" }
-}
-
-fn product(alloc: Global, text: &str) -> Option<Product> {
-    let mut product = List::new(alloc);
-    product.push(read_numeral(text.as_bytes()).ok()?).ok()?;
-    Some(product)
-}
-
-fn push_particle(
-    alloc: Global,
-    particles: &mut List<Particle>,
-    names: [&[u8]; 2],
-    spin: Spin,
-    norm: &str,
-) -> Option<()> {
-    let [name, anti] = names;
-    let particle = Particle {
-        name: Name::read(name)?,
-        anti: Name::read(anti)?,
-        spin,
-        mass: product(alloc, "0")?,
-        width: product(alloc, "0")?,
-        norm: product(alloc, norm)?,
-        colour: Colour::One,
-    };
-    particles.push(particle).ok()
-}
-
-fn push_vertex(
-    alloc: Global,
-    vertices: &mut List<Vertex>,
-    structure: Structure,
-    fields: [u16; 3],
-    factors: &[&str],
-) -> Option<()> {
-    let mut products = List::new(alloc);
-    for factor in factors {
-        products.push(product(alloc, factor)?).ok()?;
-    }
-    let vertex = Vertex {
-        structure,
-        fields: listed(alloc, &fields)?,
-        factors: products,
-        order: 1,
-    };
-    vertices.push(vertex).ok()
-}
-
-fn listed<T: Copy>(alloc: Global, all: &[T]) -> Option<List<T>> {
-    let mut list = List::new(alloc);
-    for x in all {
-        list.push(*x).ok()?;
-    }
-    Some(list)
-}
-
-// One real scalar that meets itself.
-fn scalar_model(alloc: Global, bad: usize) -> Option<Model> {
-    let mut particles = List::new(alloc);
-    push_particle(
-        alloc,
-        &mut particles,
-        [b"phi", b"phi"],
-        Spin::Scalar,
-        number(0, bad),
-    )?;
-    let mut vertices = List::new(alloc);
-    push_vertex(
-        alloc,
-        &mut vertices,
-        Structure::Sss,
-        [0, 0, 0],
-        &[number(1, bad)],
-    )?;
-    Some(Model {
-        name: Name::read(b"phi3")?,
-        particles,
-        vertices,
-    })
-}
-
-// Electrons, muons and photons.
-fn muon_model(alloc: Global, bad: usize) -> Option<Model> {
-    let mut particles = List::new(alloc);
-    push_particle(
-        alloc,
-        &mut particles,
-        [b"e-", b"e+"],
-        Spin::Dirac,
-        number(0, bad),
-    )?;
-    push_particle(
-        alloc,
-        &mut particles,
-        [b"mu-", b"mu+"],
-        Spin::Dirac,
-        number(1, bad),
-    )?;
-    push_particle(
-        alloc,
-        &mut particles,
-        [b"A", b"A"],
-        Spin::Vector,
-        number(2, bad),
-    )?;
-    let mut vertices = List::new(alloc);
-    push_vertex(
-        alloc,
-        &mut vertices,
-        Structure::Ffv,
-        [1, 0, 4],
-        &[number(3, bad), "0"],
-    )?;
-    push_vertex(
-        alloc,
-        &mut vertices,
-        Structure::Ffv,
-        [3, 2, 4],
-        &[number(4, bad), "0"],
-    )?;
-    Some(Model {
-        name: Name::read(b"qed")?,
-        particles,
-        vertices,
-    })
 }
 
 fn load_leg(leg: u8) -> Option<Instr> {
@@ -260,4 +133,21 @@ fn muon_code(alloc: Global, bad: usize) -> Option<Code> {
         slots: 5,
         instrs: instrs(alloc, &rest)?,
     })
+}
+
+fn is_short(code: &Code) -> bool
+    ensures { IsTrue result → line_count code.now < 2 ^ 31 }
+{
+    code.model.particles.len() < 1000
+        && code.model.vertices.len() < 1000
+        && code.legs.len() < 1000
+        && code.flows.len() < 1000
+        && code.dens.len() < 1000
+        && code.instrs.len() < 1000
+}
+
+pub(crate) fn verified(rt: &impl Abort, alloc: Global, code: Code) -> Result<Verified, Fail> {
+    assert!(rt; is_plain(&code));
+    assert!(rt; is_short(&code));
+    Ok(verify(alloc, code).ok().ok_or("not verified")?)
 }

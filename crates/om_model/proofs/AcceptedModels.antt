@@ -21,8 +21,9 @@ use Rattle.om_model.specs.declared.rules.Table.TheVariants as table
 use Rattle.om_model.specs.declared.rules.ModelRule.{ModelRule}
 use Rattle.om_model.specs.declared.rules.ModelRule.TheVariants.{RepeatedName, BadPattern, Limit}
 use Rattle.om_model.specs.Model.{spin_of_field, colour_row}
-use Rattle.om_model.specs.Rules.{AllHaveLength, HasColours, HasFermionSlots, HasLength, HasLengths, HasPattern, HasStructure, IsAccepted, IsFormedParticle, IsFormedVertex, IsWithinLimits, ParticleBreaks, VertexBreaks, is_name_of}
+use Rattle.om_model.specs.Rules.{HasColours, HasFermionSlots, HasLength, HasLengths, HasPattern, HasStructure, IsAccepted, IsFormedParticle, IsFormedVertex, IsWithinLimits, ParticleBreaks, VertexBreaks, is_name_of}
 use Rattle.om_model.specs.WellFormed.{AcceptedAreWellFormed}
+use Rattle.std.specs.List.{AllByRecursion}
 
 -- what can be decided and isn't refuted holds
 pub decided : {P : Type 0} (b : Bool) → Decides b P → ((P → ⊥) → ⊥) → P
@@ -90,7 +91,7 @@ same_spins xs ys = (
 has_length : (product : List Numeral) → Decision (HasLength product)
 has_length product = all_of (at_most 1 (length product)) (at_most (length product) MOST_NUMERALS)
 
-all_have_length : (products : List (List Numeral)) → Decision (AllHaveLength products)
+all_have_length : (products : List (List Numeral)) → Decision (AllByRecursion HasLength products)
 all_have_length [] = kept tt
 all_have_length (product ∷ rest) = all_of (has_length product) (all_have_length rest)
 

@@ -1,15 +1,10 @@
 -- Steps that may fail, one after the other.
 use Rattle.std.specs.Prelude.{ℕ, ◌+◌, Bool, true, false, List, [], ◌∷◌, Result, Ok, Err}
+use Rattle.om_ring.specs.ResultSteps.{◌>>=◌}
 use Rattle.om_model.specs.declared.rules.Table.{Table}
 use Rattle.om_modelfile.specs.declared.fault.ModelFault.{ModelFault}
 use Rattle.om_modelfile.specs.declared.fault.RowFault.{RowFault}
 use Rattle.om_modelfile.specs.Faults.{at_row}
-
--- what follows on an Ok
-infixl 10 ◌>>=◌
-abbrev pub ◌>>=◌ : {A B F : Type 0} → Result A F → (A → Result B F) → Result B F
-(Ok x) >>= next = next x
-(Err fault) >>= next = Err fault
 
 -- the test holds, or this is wrong
 abbrev pub unless : Bool → RowFault → Result (Unit {0}) RowFault

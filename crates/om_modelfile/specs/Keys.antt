@@ -5,7 +5,8 @@ use Rattle.std.specs.Str.{bytes_eq}
 use Rattle.toml.specs.Data.{Data, as_str, as_integer, as_array, Items, no_items, item, Members, no_members, member, get_member}
 use Rattle.om_modelfile.specs.declared.fault.RowFault.{RowFault}
 use Rattle.om_modelfile.specs.declared.fault.RowFault.TheVariants.{MissingKey, WrongKind}
-use Rattle.om_modelfile.specs.Each.{◌>>=◌, each_from}
+use Rattle.om_ring.specs.ResultSteps.{◌>>=◌}
+use Rattle.om_modelfile.specs.Each.{each_from}
 
 -- each key of the table is one of these
 abbrev pub knows_all : List (List ℕ) → Members → Bool

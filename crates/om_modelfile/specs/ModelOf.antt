@@ -13,7 +13,8 @@ use Rattle.om_modelfile.specs.declared.fault.ModelFault.{ModelFault}
 use Rattle.om_modelfile.specs.declared.fault.ModelFault.TheVariants.{NotToml, Rule, Memory}
 use Rattle.om_modelfile.specs.declared.fault.RowFault.{RowFault}
 use Rattle.om_modelfile.specs.declared.fault.RowFault.TheVariants.{MissingKey, UnknownKey, TooMuch}
-use Rattle.om_modelfile.specs.Each.{◌>>=◌, in_row, rows_of, unless}
+use Rattle.om_ring.specs.ResultSteps.{◌>>=◌}
+use Rattle.om_modelfile.specs.Each.{in_row, rows_of, unless}
 use Rattle.om_modelfile.specs.Keys.{has_all, knows_all, text_at, values_at, values_or}
 use Rattle.om_modelfile.specs.Parameters.{parameter_of}
 use Rattle.om_modelfile.specs.Particles.{particle_of}

@@ -4,7 +4,8 @@ use Rattle.toml.specs.Data.{Data, as_table, Members}
 use Rattle.om_modelfile.specs.declared.fault.RowFault.{RowFault}
 use Rattle.om_modelfile.specs.declared.fault.RowFault.TheVariants.{MissingKey, WrongKind, UnknownKey}
 use Rattle.om_modelfile.specs.declared.parameter.Parameter.{Parameter}
-use Rattle.om_modelfile.specs.Each.{◌>>=◌, unless}
+use Rattle.om_ring.specs.ResultSteps.{◌>>=◌}
+use Rattle.om_modelfile.specs.Each.{unless}
 use Rattle.om_modelfile.specs.Keys.{has_all, knows_all, text_at}
 use Rattle.om_modelfile.specs.Texts.{name_in, number_in}
 

@@ -6,7 +6,8 @@ use Rattle.om_model.specs.declared.model.Particle.{Particle}
 use Rattle.om_modelfile.specs.declared.fault.RowFault.{RowFault}
 use Rattle.om_modelfile.specs.declared.fault.RowFault.TheVariants.{MissingKey, WrongKind, UnknownKey}
 use Rattle.om_modelfile.specs.declared.parameter.Parameter.{Parameter}
-use Rattle.om_modelfile.specs.Each.{◌>>=◌, unless}
+use Rattle.om_ring.specs.ResultSteps.{◌>>=◌}
+use Rattle.om_modelfile.specs.Each.{unless}
 use Rattle.om_modelfile.specs.Keys.{has_all, knows_all, number_or, text_at, text_or}
 use Rattle.om_modelfile.specs.Products.{product_of}
 use Rattle.om_modelfile.specs.Texts.{colour_in, name_in, spin_in}

@@ -8,7 +8,8 @@ use Rattle.om_model.specs.declared.limits.TheConstants.{MOST_NUMERALS}
 use Rattle.om_modelfile.specs.declared.fault.RowFault.{RowFault}
 use Rattle.om_modelfile.specs.declared.fault.RowFault.TheVariants.{UnknownName, TooMuch}
 use Rattle.om_modelfile.specs.declared.parameter.Parameter.{Parameter}
-use Rattle.om_modelfile.specs.Each.{◌>>=◌, each_from, unless}
+use Rattle.om_ring.specs.ResultSteps.{◌>>=◌}
+use Rattle.om_modelfile.specs.Each.{each_from, unless}
 use Rattle.om_modelfile.specs.Texts.{number_in}
 
 -- the numeral of the first parameter with this name

@@ -10,7 +10,8 @@ use Rattle.om_model.specs.Name.{is_name}
 use Rattle.om_model.specs.Words.{colour_of_number, spin_of_word, structure_of_word}
 use Rattle.om_modelfile.specs.declared.fault.RowFault.{RowFault}
 use Rattle.om_modelfile.specs.declared.fault.RowFault.TheVariants.{WrongKind, BadNumber, BadName, UnknownName}
-use Rattle.om_modelfile.specs.Each.{◌>>=◌, unless}
+use Rattle.om_ring.specs.ResultSteps.{◌>>=◌}
+use Rattle.om_modelfile.specs.Each.{unless}
 
 -- a text that has to be a name
 abbrev pub name_in : List ℕ → Result (List ℕ) RowFault

@@ -10,7 +10,8 @@ use Rattle.om_model.specs.declared.model.Vertex.{Vertex}
 use Rattle.om_modelfile.specs.declared.fault.RowFault.{RowFault}
 use Rattle.om_modelfile.specs.declared.fault.RowFault.TheVariants.{MissingKey, WrongKind, UnknownKey, UnknownName, TooMuch}
 use Rattle.om_modelfile.specs.declared.parameter.Parameter.{Parameter}
-use Rattle.om_modelfile.specs.Each.{◌>>=◌, each_from, unless}
+use Rattle.om_ring.specs.ResultSteps.{◌>>=◌}
+use Rattle.om_modelfile.specs.Each.{each_from, unless}
 use Rattle.om_modelfile.specs.Keys.{has_all, knows_all, number_or, text_at, texts_at}
 use Rattle.om_modelfile.specs.Products.{product_of}
 use Rattle.om_modelfile.specs.Texts.{structure_in}

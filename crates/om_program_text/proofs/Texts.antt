@@ -11,10 +11,12 @@ use Rattle.om_code.specs.declared.code.Code.{Code}
 use Rattle.om_model.specs.FieldNames.{field_name}
 use Rattle.om_program_text.specs.Words.{product_word}
 use Rattle.om_model.specs.Words.{spin_word, structure_word, colour_word}
-use Rattle.om_program_text.specs.Writing.{all_of}
-use Rattle.om_program_text.specs.ProgramText.{Words, line_text, lines_text, spaced, particle_words, vertex_words, leg_words, flow_words, den_words, slots_lines, instr_words, end_words, version_words, model_words, program_text}
+use Rattle.om_io.specs.Writing.{all_of}
+use Rattle.om_io.specs.Lines.{Words, line_text, lines_text}
+use Rattle.om_model.specs.TermText.{spaced}
+use Rattle.om_program_text.specs.ProgramText.{particle_words, vertex_words, leg_words, flow_words, den_words, slots_lines, instr_words, end_words, version_words, model_words, program_text}
 use Rattle.om_program_text.specs.Parts.{particle_parts, vertex_parts, model_parts, process_parts, instr_parts, program_parts}
-use Rattle.om_program_text.proofs.Joining.{join_spaced}
+use Rattle.om_model.proofs.TermWords.{join_spaced}
 
 -- the first numeral, and the others behind stars
 pub product_first : (x : Numeral) (xs : List Numeral) → product_word (x ∷ xs) ≡ numeral_text x ++ flat_map (λ y. 42 ∷ numeral_text y) xs

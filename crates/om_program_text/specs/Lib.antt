@@ -1,4 +1,3 @@
 pub mod Parts
 pub mod ProgramText
 pub mod Words
-pub mod Writing

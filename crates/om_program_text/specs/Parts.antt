@@ -6,8 +6,9 @@ use Rattle.om_code.specs.declared.code.Code.{Code}
 use Rattle.om_model.specs.FieldNames.{field_name}
 use Rattle.om_program_text.specs.Words.{product_word}
 use Rattle.om_model.specs.Words.{spin_word, structure_word, colour_word}
-use Rattle.om_program_text.specs.Writing.{all_of}
-use Rattle.om_program_text.specs.ProgramText.{line_text, particle_words, vertex_words, leg_words, flow_words, den_words, instr_words, slots_lines, lines_text}
+use Rattle.om_io.specs.Writing.{all_of}
+use Rattle.om_io.specs.Lines.{line_text, lines_text}
+use Rattle.om_program_text.specs.ProgramText.{particle_words, vertex_words, leg_words, flow_words, den_words, instr_words, slots_lines}
 
 -- a particle line up to its spin
 abbrev pub names_text : Particle → List ℕ

@@ -1,7 +1,5 @@
 -- The text of a code: its lines, each of them words with single spaces between.
-use Rattle.std.specs.Prelude.{ℕ, ◌==◌, cond, Bool, List, [], ◌∷◌, ◌++◌, map, flat_map, take, decimal, codes}
-use Rattle.std.specs.List.{join_with_byte}
-use Rattle.om_legs.specs.declared.branches.Branches.{Branches}
+use Rattle.std.specs.Prelude.{ℕ, ◌==◌, cond, List, [], ◌∷◌, ◌++◌, map, decimal, codes}
 use Rattle.om_colour.specs.declared.Flow.{Flow}
 use Rattle.om_colour.specs.Texts.{flow_bytes}
 use Rattle.om_model.specs.declared.model.Particle.{Particle}
@@ -11,23 +9,11 @@ use Rattle.om_code.specs.declared.code.Instr.{Instr}
 use Rattle.om_code.specs.declared.code.Instr.TheVariants.{Load, Fuse, Prop, Key}
 use Rattle.om_code.specs.declared.code.Code.{Code}
 use Rattle.om_model.specs.FieldNames.{field_name}
-use Rattle.om_program_text.specs.Words.{place_word, sign_word, product_word, set_word}
+use Rattle.om_io.specs.Lines.{Words, lines_text}
+use Rattle.om_model.specs.TermText.{place_word, term_words}
+use Rattle.om_program_text.specs.Words.{product_word}
 use Rattle.om_model.specs.Words.{spin_word, structure_word, colour_word}
-
--- the words of a line, each a list of bytes
-abbrev pub Words : Type 0
-Words = List (List ℕ)
-
--- the words with single spaces between, and a line feed
-abbrev pub line_text : Words → List ℕ
-line_text words = join_with_byte 32 words ++ 10 ∷ []
-
--- each word behind a space
-abbrev pub spaced : Words → List ℕ
-spaced words = flat_map (λ w. 32 ∷ w) words
-
-abbrev pub lines_text : List Words → List ℕ
-lines_text lines = flat_map line_text lines
+use Rattle.om_model.specs.LegSetText.{leg_set_word}
 
 abbrev pub version_words : ℕ → Words
 version_words version = codes "omega" ∷ decimal version ∷ []
@@ -48,18 +34,11 @@ abbrev pub flow_words : Flow → Words
 flow_words w = codes "flow" ∷ flow_bytes w ∷ []
 
 abbrev pub den_words : List Particle → Den → Words
-den_words particles d = codes "den" ∷ set_word d.legs ∷ field_name particles d.field ∷ []
+den_words particles d = codes "den" ∷ leg_set_word d.legs ∷ field_name particles d.field ∷ []
 
 -- version 1 has no such line
 abbrev pub slots_lines : ℕ → ℕ → List Words
 slots_lines version slots = cond (version == 1) [] ((codes "slots" ∷ decimal slots ∷ []) ∷ [])
-
-abbrev pub branch_words : Branches → Words
-branch_words b = map place_word (take b.count b.nodes)
-
--- where a term goes to, its sign, vertex, choice and branches
-abbrev pub joint_words : ℕ → Bool → ℕ → ℕ → Branches → Words
-joint_words to minus vertex choice branches = place_word to ∷ sign_word minus ∷ place_word vertex ∷ decimal choice ∷ branch_words branches
 
 -- a load names its slot in version 2 alone
 abbrev pub load_words : ℕ → ℕ → ℕ → Words
@@ -67,9 +46,9 @@ load_words version to leg = codes "load" ∷ cond (version == 1) (decimal leg �
 
 abbrev pub instr_words : ℕ → Instr → Words
 instr_words version (Load to leg) = load_words version to leg
-instr_words version (Fuse to minus vertex choice branches) = codes "fuse" ∷ joint_words to minus vertex choice branches
+instr_words version (Fuse to minus vertex choice branches) = codes "fuse" ∷ term_words to minus vertex choice branches
 instr_words version (Prop of den) = codes "prop" ∷ place_word of ∷ place_word den ∷ []
-instr_words version (Key flow minus vertex choice branches) = codes "key" ∷ joint_words flow minus vertex choice branches
+instr_words version (Key flow minus vertex choice branches) = codes "key" ∷ term_words flow minus vertex choice branches
 
 abbrev pub end_words : Words
 end_words = codes "end" ∷ []

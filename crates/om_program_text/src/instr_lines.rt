@@ -1,16 +1,13 @@
 //! The lines of instructions.
-ghost use Rattle.std.specs.Prelude.{◌≡◌, ◌+◌, ◌*◌, ◌≤◌, ◌++◌, length};
-ghost use Rattle.om_program_text.specs.ProgramText.{line_text, instr_words, load_words, branch_words, joint_words, spaced};
-ghost use Rattle.om_code.specs.Plain.{IsPlainInstr, IsLoadSlot, IsPlace};
-ghost use Rattle.std.specs.List.{AllByRecursion};
+ghost use Rattle.std.specs.Prelude.{◌≡◌, ◌+◌, ◌≤◌, ◌++◌, length};
+ghost use Rattle.om_io.specs.Lines.{line_text};
+ghost use Rattle.om_program_text.specs.ProgramText.{instr_words, load_words};
+ghost use Rattle.om_code.specs.Plain.{IsPlainInstr};
 
-use crate::buffer::make_room;
-use crate::rows::RowKind;
-use crate::words::{push_place, sign_word};
 use om_code::Instr;
-use om_io::{Failed, Sink};
-use om_legs::Branches;
-use om_ring::Line;
+use om_io::{Failed, ROOM_BYTES, RowKind, Sink, make_room};
+use om_model::{push_place, push_term};
+use om_ring::{LINE_BYTES, Line};
 
 /// The instructions of a version.
 #[derive(Drop)]
@@ -33,8 +30,7 @@ impl RowKind for InstrLines {
 }
 
 fn push_instr(version: u8, instr: &Instr, line: &mut Line)
-    requires free { length line.old + 160 ≤ 512 }
-    requires plain { IsPlainInstr version instr.now }
+    requires { length line.old + ROOM_BYTES ≤ LINE_BYTES }
     ensures { line.new ≡ line.old ++ line_text (instr_words version instr.now) }
 {
     match instr {
@@ -47,7 +43,8 @@ fn push_instr(version: u8, instr: &Instr, line: &mut Line)
             branches,
         } => {
             line.push(b"fuse ");
-            push_joint(*to, *minus, *vertex, *choice, branches, line);
+            push_term(*to, *minus, *vertex, *choice, branches, line);
+            line.push(b"\n");
         }
         Instr::Prop { of, den } => {
             line.push(b"prop ");
@@ -64,14 +61,14 @@ fn push_instr(version: u8, instr: &Instr, line: &mut Line)
             branches,
         } => {
             line.push(b"key ");
-            push_joint(*flow, *minus, *vertex, *choice, branches, line);
+            push_term(*flow, *minus, *vertex, *choice, branches, line);
+            line.push(b"\n");
         }
     }
 }
 
 fn push_load(version: u8, to: u32, leg: u8, line: &mut Line)
-    requires free { length line.old + 160 ≤ 512 }
-    requires plain { IsLoadSlot version to leg }
+    requires { length line.old + ROOM_BYTES ≤ LINE_BYTES }
     ensures { line.new ≡ line.old ++ line_text (load_words version to leg) }
 {
     line.push(b"load ");
@@ -81,36 +78,4 @@ fn push_load(version: u8, to: u32, leg: u8, line: &mut Line)
     }
     line.push_number(u64::from(leg));
     line.push(b"\n");
-}
-
-// What follows the first word of a fuse or key line: where it goes to, the sign, the vertex, the choice, the branches.
-fn push_joint(to: u32, minus: bool, vertex: u32, choice: u8, branches: &Branches, line: &mut Line)
-    requires free { length line.old + 150 ≤ 512 }
-    requires to { IsPlace to }
-    requires vertex { IsPlace vertex }
-    requires branches { AllByRecursion IsPlace branches.now.nodes }
-    ensures { line.new ≡ line.old ++ line_text (joint_words to minus vertex choice branches.now) }
-{
-    push_place(to, line);
-    line.push(b" ");
-    line.push(sign_word(minus));
-    line.push(b" ");
-    push_place(vertex, line);
-    line.push(b" ");
-    line.push_number(u64::from(choice));
-    push_branches(branches, line);
-    line.push(b"\n");
-}
-
-// Each branch behind a space.
-fn push_branches(branches: &Branches, line: &mut Line)
-    requires free { length line.old + 84 ≤ 512 }
-    requires branches { AllByRecursion IsPlace branches.now.nodes }
-    ensures words { line.new ≡ line.old ++ spaced (branch_words branches.now) }
-    ensures short { length line.new ≤ length line.old + 84 }
-{
-    for node in &branches.nodes[..usize::from(branches.count)] {
-        line.push(b" ");
-        push_place(*node, line);
-    }
 }

@@ -3,13 +3,9 @@
 //! A program text is lines of words with single spaces between; what words a line has is said in `specs/ProgramText`.
 #![tactic(auto)]
 
-mod buffer;
 mod instr_lines;
 mod model_lines;
 mod process_lines;
-mod rows;
-mod words;
 mod writer;
 
-pub use words::push_set;
 pub use writer::write_code;

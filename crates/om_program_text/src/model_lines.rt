@@ -2,21 +2,21 @@
 ghost use Rattle.std.specs.Prelude.{◌≡◌, ◌+◌, ◌≤◌, ◌++◌, ◌∷◌, List, length, map, decimal, codes};
 ghost use Rattle.om_ring.specs.declared.numeral.Numeral.{Numeral as NumeralOf};
 ghost use Rattle.om_ring.specs.Numerals.{numeral_text};
-ghost use Rattle.om_program_text.specs.ProgramText.{line_text, particle_words, vertex_words};
+ghost use Rattle.om_io.specs.Lines.{line_text};
+ghost use Rattle.om_program_text.specs.ProgramText.{particle_words, vertex_words};
 ghost use Rattle.om_program_text.specs.Parts.{names_text, particle_parts, vertex_parts};
 ghost use Rattle.om_program_text.specs.Words.{product_word};
 ghost use Rattle.om_model.specs.Words.{spin_word as spin_word_of, structure_word as structure_word_of, colour_word as colour_word_of};
-ghost use Rattle.om_program_text.specs.Writing.{Writes, outlet, all_of};
-ghost use Rattle.om_code.specs.Plain.{IsPlainParticle, IsPlainVertex, IsNamed, IsProduct};
+ghost use Rattle.om_io.specs.Writing.{Writes, outlet, all_of};
+ghost use Rattle.om_model.specs.Rules.{HasLength, HasLengths};
+ghost use Rattle.om_code.specs.Plain.{IsPlainVertex, IsNamed};
 ghost use Rattle.om_model.specs.FieldNames.{field_name as field_name_of};
 
-use crate::buffer::make_room;
-use crate::rows::{RowKind, write_each, write_rows};
 use om_colour::Colour;
-use om_io::{Failed, Sink};
+use om_io::{Failed, ROOM_BYTES, RowKind, Sink, make_room, write_each, write_rows};
 use om_lorentz::Structure;
 use om_model::{Particle, Product, Vertex, colour_word, field_name, spin_word, structure_word};
-use om_ring::{Line, List, Numeral, show_numeral};
+use om_ring::{LINE_BYTES, Line, List, Numeral, show_numeral};
 
 /// The particles.
 #[derive(Drop)]
@@ -25,7 +25,7 @@ pub(crate) struct ParticleLines;
 impl RowKind for ParticleLines {
     type Row = Particle;
 
-    ghost plain = { λ _ p. IsPlainParticle p };
+    ghost plain = { λ _ p. HasLengths p };
 
     ghost text = { λ _ p. line_text (particle_words p) };
 
@@ -60,7 +60,7 @@ fn write_names<W: Sink>(particle: &Particle, to: &mut W, line: &mut Line) -> Res
 }
 
 fn push_names(particle: &Particle, line: &mut Line)
-    requires { length line.old + 160 ≤ 512 }
+    requires { length line.old + ROOM_BYTES ≤ LINE_BYTES }
     ensures { let p = particle.now in line.new ≡ line.old ++ names_text p }
 {
     line.push(b"particle ");
@@ -169,7 +169,7 @@ fn write_structure<W: Sink>(
 
 // A short piece of a line.
 fn write_piece<W: Sink>(piece: &[u8], to: &mut W, line: &mut Line) -> Result<(), Failed>
-    requires { length piece.now ≤ 160 }
+    requires { length piece.now ≤ ROOM_BYTES }
     ensures { Writes (outlet (W.written to.old) (W.faults to.old) line.old) (outlet (W.written to.new) (W.faults to.new) line.new) piece.now result }
 {
     make_room(to, line)?;
@@ -209,7 +209,7 @@ impl RowKind for VertexFactors {
 
     type Row = Product;
 
-    ghost plain = { λ _ p. IsProduct p };
+    ghost plain = { λ _ p. HasLength p };
 
     ghost text = { λ _ p. 32 ∷ product_word p };
 

@@ -1,16 +1,14 @@
 //! The lines of legs, flows and denominators.
 ghost use Rattle.std.specs.Prelude.{◌≡◌, ◌+◌, ◌≤◌, ◌++◌, length};
-ghost use Rattle.om_program_text.specs.ProgramText.{line_text, leg_words, flow_words, den_words};
+ghost use Rattle.om_io.specs.Lines.{line_text};
+ghost use Rattle.om_program_text.specs.ProgramText.{leg_words, flow_words, den_words};
 ghost use Rattle.om_code.specs.Plain.{IsPlainFlow, IsPlainDen, IsNamed};
 
-use crate::buffer::make_room;
-use crate::rows::RowKind;
-use crate::words::push_set;
 use om_code::Den;
 use om_colour::{Flow, flow_text};
-use om_io::{Failed, Sink};
-use om_model::{Particle, field_name};
-use om_ring::{Line, List};
+use om_io::{Failed, ROOM_BYTES, RowKind, Sink, make_room};
+use om_model::{Particle, field_name, push_leg_set};
+use om_ring::{LINE_BYTES, Line, List};
 
 /// The legs, each with its field.
 #[derive(Drop)]
@@ -33,7 +31,7 @@ impl RowKind for LegLines<'_> {
 }
 
 fn push_leg(particles: &List<Particle>, field: u16, line: &mut Line)
-    requires { length line.old + 160 ≤ 512 }
+    requires { length line.old + ROOM_BYTES ≤ LINE_BYTES }
     ensures { line.new ≡ line.old ++ line_text (leg_words particles.now field) }
 {
     line.push(b"leg ");
@@ -60,7 +58,7 @@ impl RowKind for FlowLines {
 }
 
 fn push_flow(flow: &Flow, line: &mut Line)
-    requires { length line.old + 160 ≤ 512 }
+    requires { length line.old + ROOM_BYTES ≤ LINE_BYTES }
     ensures { line.new ≡ line.old ++ line_text (flow_words flow.now) }
 {
     line.push(b"flow ");
@@ -89,11 +87,11 @@ impl RowKind for DenLines<'_> {
 }
 
 fn push_den(particles: &List<Particle>, den: &Den, line: &mut Line)
-    requires { length line.old + 160 ≤ 512 }
+    requires { length line.old + ROOM_BYTES ≤ LINE_BYTES }
     ensures { line.new ≡ line.old ++ line_text (den_words particles.now den.now) }
 {
     line.push(b"den ");
-    push_set(den.legs, line);
+    push_leg_set(den.legs, line);
     line.push(b" ");
     line.push(field_name(particles.as_slice(), den.field));
     line.push(b"\n");

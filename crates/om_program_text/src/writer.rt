@@ -2,19 +2,18 @@
 ghost use Rattle.std.specs.Prelude.{◌≡◌, ◌+◌, ◌≤◌, ◌++◌, length, codes, decimal, OnOk, OnErr};
 ghost use Rattle.om_io.specs.Bytes.{after_told, AppendsPrefix};
 ghost use Rattle.om_io.specs.Causes.{HasCause};
-ghost use Rattle.om_program_text.specs.Writing.{Writes, outlet, all_of};
-ghost use Rattle.om_program_text.specs.ProgramText.{lines_text, program_text, slots_lines, version_words, model_words};
+ghost use Rattle.om_io.specs.Writing.{Writes, outlet, all_of};
+ghost use Rattle.om_io.specs.Lines.{lines_text};
+ghost use Rattle.om_program_text.specs.ProgramText.{program_text, slots_lines, version_words, model_words};
 ghost use Rattle.om_program_text.specs.Parts.{head_text, model_parts, process_parts, instr_parts, program_parts};
 ghost use Rattle.om_code.specs.Plain.{IsPlain};
 
-use crate::buffer::{flush, make_room};
 use crate::instr_lines::InstrLines;
 use crate::model_lines::{ParticleLines, VertexLines};
 use crate::process_lines::{DenLines, FlowLines, LegLines};
-use crate::rows::write_rows;
 use om_code::Code;
-use om_io::{Failed, Sink};
-use om_ring::Line;
+use om_io::{Failed, ROOM_BYTES, Sink, flush, make_room, write_rows};
+use om_ring::{LINE_BYTES, Line};
 
 /// Appends the text of a code. It takes no memory.
 ///
@@ -82,7 +81,7 @@ fn write_head<W: Sink>(code: &Code, to: &mut W, line: &mut Line) -> Result<(), F
 }
 
 fn push_head(code: &Code, line: &mut Line)
-    requires { length line.old + 160 ≤ 512 }
+    requires { length line.old + ROOM_BYTES ≤ LINE_BYTES }
     ensures { let c = code.now in line.new ≡ line.old ++ (head_text c) }
 {
     line.push(b"omega ");

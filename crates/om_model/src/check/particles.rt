@@ -69,7 +69,8 @@ fn particle_fault<R: Ring<Mark = L>, L>(
     None
 }
 
-fn has_lengths(particle: &Particle) -> bool
+/// Whether the mass, the width and the norm have 1 to 8 numerals each.
+pub fn has_lengths(particle: &Particle) -> bool
     ensures { IsTrue result ↔ HasLengths particle.now }
 {
     has_length(particle.mass.as_slice())

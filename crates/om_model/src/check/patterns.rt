@@ -1,7 +1,6 @@
 //! The fields, the factors and the colours that a structure has.
 ghost use Rattle.std.specs.Prelude.{◌≡◌, ◌↔◌, IsTrue, MatchOption, map, Some, None};
 ghost use Rattle.std.specs.List.{list_all};
-ghost use Rattle.om_lorentz.specs.Structures.{spins as spins_of, factor_count as factor_count_of};
 ghost use Rattle.om_model.specs.Model.{is_field as is_field_of, spin_of_field as spin_of_field_of, colour_row as colour_row_of};
 ghost use Rattle.om_model.specs.Rules.{HasSlots, HasStructure, HasFermionSlots, HasPattern};
 ghost use Rattle.om_model.specs.declared.model.Vertex.{Vertex};
@@ -34,8 +33,8 @@ fn has_slots(particles: &[Particle], vertex: &Vertex) -> bool
 {
     let fields = vertex.fields.as_slice();
     are_fields(particles, fields)
-        && have_spins(particles, fields, spins(vertex.structure))
-        && vertex.factors.len() == factor_count(vertex.structure)
+        && have_spins(particles, fields, vertex.structure.spins())
+        && vertex.factors.len() == vertex.structure.factor_count()
         && has_fermion_slots(vertex.structure, fields)
 }
 
@@ -55,38 +54,6 @@ fn have_spins(particles: &[Particle], fields: &[u16], spins: &[Spin]) -> bool
         ([field, more @ ..], [spin, rest @ ..]) => spin_of_field(particles, *field) == *spin
             && have_spins(particles, more, rest),
         _ => false,
-    }
-}
-
-// The spins of the slots, in order.
-fn spins(structure: Structure) -> &'static [Spin]
-    ensures { result.now ≡ spins_of structure }
-{
-    match structure {
-        Structure::Sss => &[Spin::Scalar, Spin::Scalar, Spin::Scalar],
-        Structure::Ssss => &[Spin::Scalar, Spin::Scalar, Spin::Scalar, Spin::Scalar],
-        Structure::Vss => &[Spin::Vector, Spin::Scalar, Spin::Scalar],
-        Structure::Vvs => &[Spin::Vector, Spin::Vector, Spin::Scalar],
-        Structure::Vvss => &[Spin::Vector, Spin::Vector, Spin::Scalar, Spin::Scalar],
-        Structure::Ffs => &[Spin::Dirac, Spin::Dirac, Spin::Scalar],
-        Structure::Ffv => &[Spin::Dirac, Spin::Dirac, Spin::Vector],
-        Structure::Vvv => &[Spin::Vector, Spin::Vector, Spin::Vector],
-        Structure::Vvvv | Structure::Gluon4 => &[
-            Spin::Vector,
-            Spin::Vector,
-            Spin::Vector,
-            Spin::Vector,
-        ],
-    }
-}
-
-fn factor_count(structure: Structure) -> usize
-    ensures { result ≡ factor_count_of structure }
-{
-    match structure {
-        Structure::Ffs | Structure::Ffv => 2,
-        Structure::Vvvv => 3,
-        _ => 1,
     }
 }
 

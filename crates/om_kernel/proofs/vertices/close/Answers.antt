@@ -8,4 +8,4 @@ returns-clause-value g c =
     let o : Ops g.row.R-E.Denot = g.R.Ring.ops r in
     let l : Laws o = laws_from (g.R.Ring.element r) o (g.met.R.Ring.known r) (g.met.R.Ring.laws r) in
     closed-known o l c.args.reading c.args.factors.now c.args.slots.now c.args.structure _ _ _
-    c.last_slot-last.ensures c.fused-wave.ensures.value c.contracted.ensures.value c.requires.reads c.requires.fits
+    c.slot_count-last.ensures c.fused-wave.ensures.value c.contracted.ensures.value c.requires.reads c.requires.fits

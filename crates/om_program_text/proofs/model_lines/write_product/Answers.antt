@@ -1,8 +1,8 @@
 use Rattle.std.proofs.Common.{◌∷◌, ◌++◌, [], ap, sym, ◌∙◌, flat_map, append_assoc}
 use Rattle.om_ring.specs.Numerals.{numeral_text}
 use Rattle.om_program_text.specs.Words.{product_word}
-use Rattle.om_program_text.specs.Writing.{outlet}
-use Rattle.om_program_text.proofs.Outlets.{pushed, writes_both, writes_same}
+use Rattle.om_io.specs.Writing.{outlet}
+use Rattle.om_io.proofs.Outlets.{pushed, writes_both, writes_same}
 use Rattle.om_program_text.proofs.Texts.{product_first}
 use Rattle.om_program_text.proofs.model_lines.write_product.Goals as goal
 

@@ -1,8 +1,8 @@
 use Rattle.std.proofs.lemmas.Result.{err_from_is_err_and}
-use Rattle.om_program_text.specs.Writing.{outlet, all_of}
+use Rattle.om_io.specs.Writing.{outlet, all_of}
 use Rattle.om_program_text.specs.Parts.{program_parts}
 use Rattle.om_program_text.specs.ProgramText.{program_text}
-use Rattle.om_program_text.proofs.Outlets.{whole_written, broken_end, broken_before}
+use Rattle.om_io.proofs.Outlets.{whole_written, broken_end, broken_before}
 use Rattle.om_program_text.proofs.Texts.{program_of_parts}
 use Rattle.om_program_text.proofs.writer.write_code.Goals as goal
 

@@ -1,8 +1,8 @@
 use Rattle.std.proofs.Common.{drop}
 use Rattle.std.proofs.lemmas.Result.{err_from_is_err_and}
 use Rattle.om_program_text.specs.Parts.{model_parts}
-use Rattle.om_program_text.proofs.Outlets.{steps_break, steps_last}
-use Rattle.om_program_text.proofs.Outlets.Steps.{none, more}
+use Rattle.om_io.proofs.Outlets.{steps_break, steps_last}
+use Rattle.om_io.proofs.Outlets.Steps.{none, more}
 use Rattle.om_program_text.proofs.writer.write_model.Goals as goal
 
 pub returns-in_err-write_rows : goal.returns-in_err-write_rows

@@ -1,7 +1,7 @@
 use Rattle.std.proofs.Common.{arith, ap, sym}
 use Rattle.std.specs.Prelude.{List}
 use Rattle.om_asm.specs.Lines.{At}
-use Rattle.om_program_text.specs.ProgramText.{Words}
+use Rattle.om_io.specs.Lines.{Words}
 use Rattle.om_asm.proofs.Splitting.{line_more, line_none}
 use Rattle.om_asm.proofs.lines.Lines.from_line.Goals as goal
 

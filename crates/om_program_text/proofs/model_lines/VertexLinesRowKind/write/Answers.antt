@@ -1,6 +1,6 @@
 use Rattle.om_program_text.specs.Parts.{vertex_parts}
-use Rattle.om_program_text.specs.Writing.{all_of}
-use Rattle.om_program_text.proofs.Outlets.{writes_same}
+use Rattle.om_io.specs.Writing.{all_of}
+use Rattle.om_io.proofs.Outlets.{writes_same}
 use Rattle.om_program_text.proofs.Texts.{vertex_text}
 use Rattle.om_program_text.proofs.model_lines.VertexLinesRowKind.write.Goals as goal
 

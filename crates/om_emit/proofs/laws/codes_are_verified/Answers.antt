@@ -1,6 +1,0 @@
-use Rattle.om_emit.proofs.GraphHelds.{fuse_keeps}
-use Rattle.om_emit.proofs.DenPlaces.{all_size}
-use Rattle.om_emit.proofs.laws.codes_are_verified.Goals as goal
-
-pub returns : goal.returns
-returns c m p formed is g canonical few_nodes few_flows code is_code = ?

@@ -1,0 +1,4 @@
+pub mod Fusions
+pub mod Joining
+pub mod Loops
+pub mod Texts
