@@ -1,5 +1,5 @@
 -- The index sums of a vertex of a code are nested sums over the indices of what enters it.
-use Rattle.std.proofs.Common.{◌≡◌, ℕ, ◌+◌, List, [], ◌∷◌, length, map, Option, Some, None, ◌⊎◌, inl, inr, refl, ap, ap₂, sym, ◌∙◌, arith}
+use Rattle.std.proofs.Common.{◌≡◌, ℕ, ◌+◌, List, [], ◌∷◌, length, map, Option, Some, None, ◌⊎◌, inl, inr, ap, sym, ◌∙◌, arith}
 use Rattle.std.specs.Prelude.{slice_get}
 use Rattle.om_ring.specs.Ops.{Ops, Laws}
 use Rattle.om_ring.specs.Sums.{sum_over}
@@ -14,14 +14,12 @@ use Rattle.om_lorentz.specs.Entries.{entry}
 use Rattle.om_legs.specs.Legs as sets
 use Rattle.om_legs.proofs.LegLists.{legs_of-empty}
 use Rattle.om_kernel.specs.declared.waves.Wave.{Wave}
-use Rattle.om_kernel.specs.Waves.{component, wave_indices}
 use Rattle.om_kernel.specs.IndexSums.{Summand, fixed, brought, sum_slots, index_sum, full_sum, momenta_of}
 use Rattle.om_model.specs.declared.model.Vertex.{Vertex}
 use Rattle.om_model.specs.Entries.{factors_of, feynman_rules, four_of, reading_in, vertex_entry}
 use Rattle.om_model.specs.Event.{members, momentum_of}
-use Rattle.om_model.specs.FeynmanRules.{FeynmanRules, Table}
+use Rattle.om_model.specs.FeynmanRules.{Table}
 use Rattle.om_model.specs.Model.{colour_row}
-use Rattle.om_model.specs.Parts.{Part}
 use Rattle.om_model.specs.Theory.{Scattering}
 use Rattle.om_model.specs.Value.{entering}
 use Rattle.om_keystone.specs.EdgeRules.{with_indices}

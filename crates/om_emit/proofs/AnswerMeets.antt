@@ -1,11 +1,11 @@
 -- What meets at a vertex of a code of a canonical graph is what meets at that vertex of the graph.
-use Rattle.std.proofs.Common.{◌≡◌, ℕ, suc, ◌+◌, ◌<◌, ◌≤◌, List, [], ◌∷◌, ◌++◌, length, map, Bool, true, false, cond, not, ◌&&◌, ◌⊎◌, inl, inr, Option, Some, None, refl, ap, ap₂, sym, subst, ◌∙◌, arith, true≢false}
+use Rattle.std.proofs.Common.{◌≡◌, ℕ, suc, ◌+◌, ◌<◌, ◌≤◌, List, [], ◌∷◌, ◌++◌, length, map, Bool, true, false, not, ◌&&◌, ◌⊎◌, inl, inr, Option, Some, None, refl, ap, sym, subst, ◌∙◌, arith, true≢false}
 use Rattle.std.specs.Prelude.{slice_get}
+use Rattle.std.proofs.lemmas.Simd.{map-map}
 use Rattle.om_ring.specs.Members.{In, Different}
 use Rattle.om_ring.specs.Ops.{Ops, Laws}
 use Rattle.om_ring.specs.Sums.{sum_over}
 use Rattle.om_ring.proofs.RingLemmas.{one_times}
-use Rattle.om_ring.proofs.SumLemmas.{sum_over-ext}
 use Rattle.om_lorentz.specs.declared.structures.Spin.{Spin}
 use Rattle.om_lorentz.specs.declared.structures.Spin.TheVariants.{Scalar, Dirac, Vector}
 use Rattle.om_lorentz.specs.Structures as structures
@@ -22,7 +22,6 @@ use Rattle.om_model.specs.Entries.{factors_of, feynman_rules}
 use Rattle.om_model.specs.Diagram.{times_in}
 use Rattle.om_model.specs.Event.{Event, members}
 use Rattle.om_model.specs.FeynmanRules.{FeynmanRules, Table}
-use Rattle.om_model.specs.Model.{spin_of_field}
 use Rattle.om_model.specs.Parts.{Part, within, others, least}
 use Rattle.om_model.specs.Reordered.{Reordered}
 use Rattle.om_model.specs.Reordered.Reordered.{same, keep, turn, chain}
@@ -30,37 +29,33 @@ use Rattle.om_model.specs.Slots.{in_slots}
 use Rattle.om_model.specs.Theory.{Scattering}
 use Rattle.om_model.specs.Value.{entering, vertex_entry}
 use Rattle.om_model.proofs.Reordering.{reordered_back, reordered_swap, length-reordered}
-use Rattle.om_graph.specs.declared.Key.{Key}
-use Rattle.om_graph.specs.Vertices.{fields_of, sets_of}
 use Rattle.om_graph.proofs.Lists.{in_map, in_mapped}
-use Rattle.om_keystone.specs.EdgeRules.{opposite, with_indices}
-use Rattle.om_keystone.specs.NodeWaves.{indices_at, keys_at, meet_at, part_of}
-use Rattle.om_keystone.proofs.Numbers.{At, keys_are}
-use Rattle.om_keystone.proofs.Numbers.At.{at_none, at_more}
+use Rattle.om_keystone.specs.EdgeRules.{with_indices}
 use Rattle.om_code.specs.declared.code.Code.{Code}
 use Rattle.om_code.specs.Contents.{EnteringWave, open_slot, slots_of, waves_in_slots}
 use Rattle.om_code.specs.Vertices.{reading_of_vertex, structure_of}
 use Rattle.om_code.specs.Waves.{Incoming, event_of, wave_of}
 use Rattle.om_machine.specs.Events.{kind_of_spin}
 use Rattle.om_machine.proofs.Each.{Each, each-reordered}
-use Rattle.om_emit.proofs.AnswerNests.{nest, nest-reordered}
-use Rattle.om_emit.proofs.AnswerSlots.{part_in, key_in, AreSlots, map-map, slotted, slotted-alike, slotted-reordered, slotted-fields}
+use Rattle.om_emit.proofs.AnswerNests.{nest-reordered}
+use Rattle.om_emit.proofs.AnswerSlots.{part_in, key_in, AreSlots, slotted, slotted-alike, slotted-reordered, slotted-fields}
 use Rattle.om_emit.proofs.AnswerKernels.{indices_in, weight_in, nested, open_edges, one_if_open, vertex_value, index_sum-nested, full_sum-nested}
 use Rattle.om_emit.proofs.AnswerSets.{IsSetOf, members_are, least_is, others_are, part_is}
 
 -- parts of a split have different least legs
 pub leasts-differ : (parts : List ℕ) → ((leg : ℕ) → times_held leg parts ≤ 1) → ((x : ℕ) → In x parts → sets.IsLegSet x × (0 < x)) → Different (map sets.least parts)
 leasts-differ [] h w = tt
-leasts-differ (p ∷ ps) h w =
-    ((λ i.
-        let q = in_mapped sets.least (sets.least p) ps i in
-        let here : sets.holds p (sets.least p) ≡ true = (let s = w p (inl refl) in holds-least p s.1 s.0) in
-        let there : sets.holds q.0 (sets.least p) ≡ true = (let s = w q.0 (inr q.1) in ap (sets.holds q.0) q.2 ∙ holds-least q.0 s.1 s.0) in
-        let more = held_counted (sets.least p) q.0 ps q.1 there in
-        let count = times_held-cons (sets.least p) p ps ∙ ap (λ b. bit b + times_held (sets.least p) ps) here in
-        let most = h (sets.least p) in
-        absurd (omega arith)),
-    leasts-differ ps (λ leg. let most = h leg in let count = times_held-cons leg p ps in omega arith) (λ x i. w x (inr i)))
+leasts-differ (p ∷ ps) h w = (
+  (λ i.
+      let q = in_mapped sets.least (sets.least p) ps i in
+      let here : sets.holds p (sets.least p) ≡ true = (let s = w p (inl refl) in holds-least p s.1 s.0) in
+      let there : sets.holds q.0 (sets.least p) ≡ true = (let s = w q.0 (inr q.1) in ap (sets.holds q.0) q.2 ∙ holds-least q.0 s.1 s.0) in
+      let more = held_counted (sets.least p) q.0 ps q.1 there in
+      let count = times_held-cons (sets.least p) p ps ∙ ap (λ b. bit b + times_held (sets.least p) ps) here in
+      let most = h (sets.least p) in
+      absurd (omega arith)),
+  leasts-differ ps (λ leg. let most = h leg in let count = times_held-cons leg p ps in omega arith) (λ x i. w x (inr i)),
+)
 
 -- the open slot, and the field there
 pub open-at : {E : Type 0} (o : Ops E) (u : ℕ) (qs : List (EnteringWave E)) → open_edges o qs ≡ 1 → Each (λ q. q.wave ≡ None → q.field ≡ u) qs
@@ -115,8 +110,8 @@ module _ {E : Type 0} (o : Ops E) (l : Laws o) (s : Scattering) (small : s.size 
   abbrev rules : FeynmanRules E
   rules = feynman_rules o c.model t
 
-  abbrev ev : Event E
-  ev = event_of o e
+  abbrev event : Event E
+  event = event_of o e
 
   abbrev HasLeast : EnteringWave E → Type 0
   HasLeast q = least s.size (part_in q) ≡ key_in q
@@ -126,13 +121,13 @@ module _ {E : Type 0} (o : Ops E) (l : Laws o) (s : Scattering) (small : s.size 
 
   -- the entry of the vertex, with these edges
   abbrev pub entry_of : List (EnteringWave E) → List ℕ → E
-  entry_of qs is = vertex_entry o s rules ev v ch (with_indices (map part_in qs) is)
+  entry_of qs is = vertex_entry o s rules event v ch (with_indices (map part_in qs) is)
 
   alike : (xs ys : List (EnteringWave E)) (are : AreSlots s v xs ys) (h : ℕ → ℕ)
       → entry_of xs (map (λ q. h (key_in q)) xs) ≡ vertex_value o l c t e s v ch (slotted s v xs ys are) (map (λ q. h (key_in q)) (slotted s v xs ys are))
   unfolding vertex_entry
   alike xs ys are h =
-      ap (λ qs. rules.vertex v ch (map (entering o s rules ev) qs))
+      ap (λ qs. rules.vertex v ch (map (entering o s rules event) qs))
       (ap (in_slots s v) (with-map part_in (λ q. h (key_in q)) xs) ∙ slotted-alike s v xs ys are h ∙ sym (with-map part_in (λ q. h (key_in q)) (slotted s v xs ys are)))
 
   -- whatever the order, the sum over what enters is that over the slots
@@ -151,7 +146,7 @@ module _ {E : Type 0} (o : Ops E) (l : Laws o) (s : Scattering) (small : s.size 
     have_members = each_in HasMembers ms (λ q i. members_are s.size small q.legs (part_set q i))
 
     leasts_differ : Different (map key_in ms)
-    leasts_differ = subst Different (map-map (λ (q : EnteringWave E). q.legs) sets.least ms) (leasts-differ (map (λ q. q.legs) ms) (λ leg. let shared = met.split.shared leg in let few = one_at_most (sets.holds a leg) in omega arith)
+    leasts_differ = subst Different (map-map sets.least (λ (q : EnteringWave E). q.legs) ms) (leasts-differ (map (λ q. q.legs) ms) (λ leg. let shared = met.split.shared leg in let few = one_at_most (sets.holds a leg) in omega arith)
         (λ x i. let w = in_mapped (λ (q : EnteringWave E). q.legs) x ms i in let set = subst (IsSetOf s.size) (sym w.2) (part_set w.0 w.1) in (set.is_set, set.some)))
       where
         one_at_most : (b : Bool) → bit b ≤ 1
@@ -210,7 +205,7 @@ module _ {E : Type 0} (o : Ops E) (l : Laws o) (s : Scattering) (small : s.size 
 
       -- the index sum is the sum over the waves
       pub fuses-in : (n : ℕ) → o.times o.imag (index_sum o (structure_of c v) (reading_of_vertex c v ch) (factors_of o (t.factors v)) (slots_of o c t e fused_slots) (open_slot fused_slots) n)
-          ≡ nested o l n ms (λ is. vertex_entry o s rules ev v ch ((part_in edge_up, n) ∷ with_indices (map part_in ms) is))
+          ≡ nested o l n ms (λ is. vertex_entry o s rules event v ch ((part_in edge_up, n) ∷ with_indices (map part_in ms) is))
       unfolding with_indices
       fuses-in n =
           let m = slotted-reordered s v (edge_up ∷ ms) (ms ++ edge_up ∷ []) fuse_slots in

@@ -1,6 +1,6 @@
 -- Sums over the indices of several things, one inside the other, and their order.
-use Rattle.std.proofs.Common.{◌≡◌, ℕ, suc, List, [], ◌∷◌, length, map, Bool, true, false, inl, inr, refl, ap, ap₂, sym, subst, ◌∙◌, arith, true≢false}
-use Rattle.std.specs.Prelude.{◌==◌, if◌then◌else◌}
+use Rattle.std.proofs.Common.{◌≡◌, ℕ, suc, List, [], ◌∷◌, length, map, Bool, true, false, inl, inr, refl, ap, sym, ◌∙◌, arith}
+use Rattle.std.specs.Prelude.{◌==◌}
 use Rattle.std.proofs.lemmas.Bool.Decides.{nat_tests}
 use mathlib.Core.Path.{fun_ext}
 use Rattle.om_ring.specs.Members.{In, Different}
@@ -12,12 +12,7 @@ use Rattle.om_model.specs.Reordered.{Reordered}
 use Rattle.om_model.specs.Reordered.Reordered.{same, keep, turn, chain}
 use Rattle.om_model.proofs.Reordering.{reordered-map, different-reordered}
 use Rattle.om_code.specs.Registers.{put}
-
-put-same : (f : ℕ → ℕ) (k i : ℕ) → put f k i k ≡ i
-put-same f k i = let e : (k == k) ≡ true = grind (arith, nat_tests) in ap (λ b. if b then i else f k) e
-
-put-other : (f : ℕ → ℕ) (k i j : ℕ) → (j ≡ k → ⊥) → put f k i j ≡ f j
-put-other f k i j n = let e : (j == k) ≡ false = grind (arith, nat_tests) in ap (λ b. if b then i else f j) e
+use Rattle.om_code.proofs.PlacedRuns.{put_here, put_elsewhere}
 
 put-swap : (f : ℕ → ℕ) (a b i j : ℕ) → (a ≡ b → ⊥) → put (put f a i) b j ≡ put (put f b j) a i
 put-swap f a b i j n = fun_ext (λ k. by k (k == a) (k == b) refl refl)
@@ -47,14 +42,14 @@ module _ {E : Type 0} (o : Ops E) (l : Laws o) {X : Type 0} (key : X → ℕ) (i
   assigned-kept [] g f f' k i n e h = h g e
   assigned-kept (x ∷ xs) g f f' k i n e h =
       sum_over-ext o (indices x) _ _ (λ j. ap (o.times (weight x j))
-      (assigned-kept xs (put g (key x) j) f f' k i (λ m. n (inr m)) (put-other g (key x) j k (λ q. n (inl q)) ∙ e) h))
+      (assigned-kept xs (put g (key x) j) f f' k i (λ m. n (inr m)) (put_elsewhere g (key x) j k (λ q. n (inl q)) ∙ e) h))
 
   nest-assigned : (xs : List X) (g : ℕ → ℕ) (f : List ℕ → E) → Different (map key xs) → nest xs f ≡ assigned xs g (λ h. f (map (λ x. h (key x)) xs))
   nest-assigned [] g f d = refl
   nest-assigned (x ∷ xs) g f d =
       sum_over-ext o (indices x) _ _ (λ i. ap (o.times (weight x i))
       (nest-assigned xs (put g (key x) i) (λ is. f (i ∷ is)) d.1
-      ∙ assigned-kept xs (put g (key x) i) (λ h. f (i ∷ map (λ y. h (key y)) xs)) (λ h. f (h (key x) ∷ map (λ y. h (key y)) xs)) (key x) i d.0 (put-same g (key x) i)
+      ∙ assigned-kept xs (put g (key x) i) (λ h. f (i ∷ map (λ y. h (key y)) xs)) (λ h. f (h (key x) ∷ map (λ y. h (key y)) xs)) (key x) i d.0 (put_here g (key x) i (key x) refl)
       (λ h e. ap (λ j. f (j ∷ map (λ y. h (key y)) xs)) (sym e))))
 
   assigned-reordered : {xs ys : List X} → Reordered xs ys → (g : ℕ → ℕ) (f : (ℕ → ℕ) → E) → Different (map key xs) → assigned xs g f ≡ assigned ys g f

@@ -4,17 +4,17 @@ use Rattle.std.proofs.lemmas.Bool.Decides.{nat_tests}
 use mathlib.Core.Path.{fun_ext}
 use Rattle.om_ring.specs.Members.{In}
 use Rattle.om_legs.specs.Legs as sets
-use Rattle.om_legs.specs.Splits.{IsSplit, times_held}
+use Rattle.om_legs.specs.Splits.{IsSplit}
 use Rattle.om_legs.proofs.Bits.{same_sets, IsLegSet-set_of, holds-zero}
 use Rattle.om_legs.proofs.ShareSums.{size-empty}
 use Rattle.om_legs.proofs.Least.{held_some, holds-least}
 use Rattle.om_legs.proofs.FirstPart.{IsLegSet-part, part_filled, part_leg}
-use Rattle.om_legs.proofs.Operations.{holds-complement, IsLegSet-complement, holds-all_legs, IsLegSet-all_legs}
+use Rattle.om_legs.proofs.Operations.{holds-complement, IsLegSet-complement}
 use Rattle.om_model.specs.Diagram.{times_in, upto}
 use Rattle.om_model.specs.Event.{members}
 use Rattle.om_model.specs.FermionLines.{Kinds}
 use Rattle.om_model.specs.LegSets.{leg_set}
-use Rattle.om_model.specs.Parts.{Part, within, others, holds, least}
+use Rattle.om_model.specs.Parts.{within, others, holds, least}
 use Rattle.om_model.specs.Spelled.{IsSubtree}
 use Rattle.om_model.specs.Tree.{Tree, legs}
 use Rattle.om_model.proofs.Counting.{in_upto, length-upto}

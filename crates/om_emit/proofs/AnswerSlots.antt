@@ -1,5 +1,6 @@
 -- What enters a vertex of a code, slot by slot, as the parts of a vertex fill its slots.
-use Rattle.std.proofs.Common.{◌≡◌, ℕ, List, [], ◌∷◌, ◌++◌, map, Bool, true, false, cond, ltb, refl, ap, ap₂, sym, subst, ◌∙◌}
+use Rattle.std.proofs.Common.{◌≡◌, ℕ, List, [], ◌∷◌, map, cond, ltb, refl, ap, ap₂, sym, subst, ◌∙◌}
+use Rattle.std.proofs.lemmas.Simd.{map-map}
 use Rattle.om_ring.specs.Members.{Different}
 use Rattle.om_legs.specs.Legs as sets
 use Rattle.om_model.specs.Diagram.{times_in}
@@ -13,10 +14,6 @@ use Rattle.om_model.proofs.Sorting.{sort-reordered}
 use Rattle.om_code.specs.Contents.{EnteringWave, waves_in_slots}
 use Rattle.om_code.specs.Vertices.{part_of}
 use Rattle.om_machine.proofs.Each.{Each, each-reordered}
-
-pub map-map : {A B C : Type 0} (f : A → B) (g : B → C) (xs : List A) → map g (map f xs) ≡ map (λ x. g (f x)) xs
-map-map f g [] = refl
-map-map f g (x ∷ xs) = ap (λ ys. g (f x) ∷ ys) (map-map f g xs)
 
 -- keys that are the same sort the same
 module _ {A : Type 0} (f g : A → ℕ) where
@@ -83,7 +80,7 @@ module _ {E : Type 0} where
     unfolding in_slots
     filled =
         ap (fill (s.theory.slots v)) (sort-same (λ z. least s.size z.0) by_set (tagged xs) (each-tagged xs are.least_are)
-        ∙ sort-reordered by_set (tagged xs) (tagged ys) (reordered-map (λ q. (part_in q, q)) (reordered_back are.reordered)) (subst Different (sym (map-map (λ q. (part_in q, q)) by_set xs)) are.differ))
+        ∙ sort-reordered by_set (tagged xs) (tagged ys) (reordered-map (λ q. (part_in q, q)) (reordered_back are.reordered)) (subst Different (sym (map-map by_set (λ q. (part_in q, q)) xs)) are.differ))
 
     abbrev pub slotted : List (EnteringWave E)
     slotted = waves_in_slots (s.theory.slots v) ys
@@ -109,7 +106,7 @@ module _ {E : Type 0} where
     pub slotted-alike : (h : ℕ → ℕ) → in_slots s v (map (λ q. (part_in q, h (key_in q))) xs) ≡ map (λ q. (part_in q, h (key_in q))) slotted
     slotted-alike h =
         let g : EnteringWave E → ℕ = λ q. h (key_in q) in
-        ap (in_slots s v) (sym (map-map (λ q. (part_in q, q)) (carry g) xs))
+        ap (in_slots s v) (sym (map-map (carry g) (λ q. (part_in q, q)) xs))
         ∙ in_slots-map g s v (tagged xs)
         ∙ carried g (in_slots s v (tagged xs)) tags
         ∙ ap (map (λ q. (part_in q, g q))) slotted-is

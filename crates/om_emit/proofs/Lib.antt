@@ -1,3 +1,14 @@
+pub mod AnswerNests
+pub mod AnswerSlots
+pub mod AnswerKernels
+pub mod AnswerSets
+pub mod AnswerMeets
+pub mod AnswerTerms
+pub mod AnswerNodes
+pub mod AnswerSums
+pub mod AnswerPoles
+pub mod EmittedAnswer
+pub mod AnswerFlows
 pub mod PlanningSteps
 pub mod FreeSlots
 pub mod Planned

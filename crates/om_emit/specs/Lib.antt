@@ -1,3 +1,4 @@
+pub mod EmittedAnswer
 pub mod Planning
 pub mod NodeCode
 pub mod GraphCode

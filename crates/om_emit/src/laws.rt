@@ -1,5 +1,6 @@
 //! Laws of the codes of graphs. Each is the contract of a function that does nothing.
 ghost use Rattle.om_emit.specs.EdgesAbove.{DensAreEdgesAbove};
+ghost use Rattle.om_emit.specs.EmittedAnswer.{EmittedCodeGivesAnswer, EmittedFlowsAreTheirs, EvaluatedIsAnswer, NoDiagramNoFlow, SumsStandAtFlows};
 ghost use Rattle.om_emit.specs.Laws.{CodeGivesKeystones, CodeGivesSums, CodesHaveFewestSlots, EmittedCodeGivesSums, GraphCodeGivesSums, GraphCodeKeepsFinds};
 
 use om_ring::Ring;
@@ -47,6 +48,20 @@ pub fn dens_are_edges_above()
 /// The sums that the code of such a graph means are those of its keystones, from what its nodes hold.
 pub fn emitted_code_gives_sums<R: Ring>(ring: &R)
     ensures { EmittedCodeGivesSums (R.ops ring.now) }
+{
+    let _ring = ring;
+}
+
+/// The compiler is correct: with the numbers of any table, what the code of a canonical graph means for an event is the answer to
+/// the event by all diagrams, pole and name included. What a machine of the code gives, with the numbers of the model, is
+/// therefore the answer, and the sum of flow k belongs to flow k of the code. Its flows are those of the diagrams, in order; there
+/// is none exactly where no diagram is, and then the code has no line.
+pub fn emitted_code_gives_answer<R: Ring>(ring: &R)
+    ensures answer { EmittedCodeGivesAnswer (R.ops ring.now) }
+    ensures evaluated { EvaluatedIsAnswer (R.ops ring.now) }
+    ensures sums { SumsStandAtFlows R.E }
+    ensures flows { EmittedFlowsAreTheirs }
+    ensures none { NoDiagramNoFlow }
 {
     let _ring = ring;
 }
