@@ -4,3 +4,4 @@ pub mod ProgramLines
 pub mod CallBounds
 pub mod Values
 pub mod Streams
+pub mod GraphSizes

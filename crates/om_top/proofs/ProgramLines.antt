@@ -8,7 +8,8 @@ use Rattle.om_asm.specs.Lines.{lines_of}
 use Rattle.om_asm.specs.Program.{program_of}
 use Rattle.om_asm.specs.Rows.{place}
 use Rattle.om_asm.proofs.Found.{code_found}
-use Rattle.om_program_text.specs.ProgramText.{Words, end_words, particle_words, vertex_words, leg_words, flow_words, den_words, slots_lines, instr_words, line_text, lines_text, program_lines, program_text}
+use Rattle.om_io.specs.Lines.{Words, line_text, lines_text}
+use Rattle.om_program_text.specs.ProgramText.{end_words, particle_words, vertex_words, leg_words, flow_words, den_words, slots_lines, instr_words, program_lines, program_text}
 
 lines_long : (ls : List Words) → length ls ≤ length (lines_text ls)
 lines_long [] = omega arith

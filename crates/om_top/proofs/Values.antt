@@ -11,8 +11,8 @@ use Rattle.om_io.specs.Causes.{Rose}
 use Rattle.om_model.specs.Answer.Answer.{values}
 use Rattle.om_model.specs.declared.model.Model.{Model}
 use Rattle.om_emit.specs.EmittedAnswer.{with_sums}
-use Rattle.om_program_text.specs.Writing.{Outlet, Takes, Breaks, outlet}
-use Rattle.om_program_text.proofs.Outlets.{all_written, prefix_written, row_breaks, row_more}
+use Rattle.om_io.specs.Writing.{Outlet, Takes, Breaks, outlet}
+use Rattle.om_io.proofs.Outlets.{all_written, prefix_written, row_breaks, row_more}
 use Rattle.om_top.specs.AnswerText.{answer_line, answer_text, value_text}
 
 -- the flows of a code

@@ -16,3 +16,4 @@ pub mod GraphRan
 pub mod SampleRan
 pub mod Ran
 pub mod Cost
+pub mod Agree

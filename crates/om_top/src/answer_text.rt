@@ -16,7 +16,7 @@ use om_io::{Failed, Sink, write_all};
 use om_legs::LegSet;
 use om_machine::{Machine, Outcome};
 use om_model::field_name;
-use om_program_text::push_set;
+use om_model::push_leg_set;
 use om_ring::{Line, Ring};
 
 /// Writes the lines of the answer to event number `number`, which is what the machine answered last.
@@ -92,7 +92,7 @@ fn push_pole(code: &Code, number: u32, legs: LegSet, field: u16, line: &mut Line
 {
     push_start(number, line);
     line.push(b"pole ");
-    push_set(legs, line);
+    push_leg_set(legs, line);
     line.push(b" ");
     line.push(field_name(code.model.particles.as_slice(), field));
     line.push(b"\n");

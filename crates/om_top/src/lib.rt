@@ -6,6 +6,7 @@ mod command;
 mod commands;
 mod ending;
 mod faults;
+pub mod laws;
 mod load;
 mod message;
 mod stream;

@@ -1,7 +1,7 @@
 use Rattle.std.proofs.Common.{[], refl, sym, ◌∙◌, arith}
 use Rattle.std.proofs.lemmas.Result.{err_from_is_err_and}
-use Rattle.om_program_text.specs.Writing.{outlet}
-use Rattle.om_program_text.proofs.Outlets.{told_nothing}
+use Rattle.om_io.specs.Writing.{outlet}
+use Rattle.om_io.proofs.Outlets.{told_nothing}
 use Rattle.om_top.proofs.Values.{all_lines, broke, line_breaks, line_more, same_flows, wrote}
 use Rattle.om_top.proofs.answer_text.write_values.Goals as goal
 

@@ -1,6 +1,6 @@
 use Rattle.std.proofs.Common.{[], take, flat_map}
 use Rattle.om_emit.specs.EmittedAnswer.{with_sums}
-use Rattle.om_program_text.specs.Writing.{Takes, outlet}
+use Rattle.om_io.specs.Writing.{Takes, outlet}
 use Rattle.om_top.proofs.Values.{pair_line}
 use Rattle.om_top.proofs.answer_text.write_values.Given as goal
 
