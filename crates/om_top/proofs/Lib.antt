@@ -4,4 +4,6 @@ pub mod ProgramLines
 pub mod CallBounds
 pub mod Values
 pub mod Streams
+pub mod CodeAnswers
+pub mod StreamSteps
 pub mod GraphSizes

@@ -21,6 +21,7 @@ use Rattle.om_event.specs.declared.reader.Next.{Next}
 use Rattle.om_event.specs.declared.reader.Next.TheVariants as next
 use Rattle.om_event.proofs.EventFronts.{goes_by_fronts}
 use Rattle.om_event.proofs.FrontsStay.{Stays, stays}
+use Rattle.om_top.specs.Cost.{events_begun, one_begun}
 use Rattle.om_top.specs.Outside.{Side}
 use Rattle.om_top.specs.Streamed.{Lines, Streamed, StreamedGiven, GainedLines, IsOpen, ended_by, ending_of}
 use Rattle.om_top.specs.declared.ending.Ending.{Ending}
@@ -50,10 +51,7 @@ module _ {E : Type 0} (Owes : ℕ → Legs E → List ℕ → Type 0) where
     ap (λ (t : List ℕ). t ++ line) h.4 ∙ append_assoc h.0 h.1 line,
   )
 
-  module _ (o : Ops E) (kinds : List WaveKind) (some : kinds ≢ []) where
-    fronts : GoByFronts o kinds
-    fronts = goes_by_fronts o kinds some
-
+  module _ (o : Ops E) (kinds : List WaveKind) where
     -- After k events. first, now: what the input told at first and tells now; out_first, out_now: what the output told; held: the bytes
     -- that the reader holds
     pub record Progress (first now out_first out_now : Option (List ℕ)) (held : List ℕ) (k : ℕ) : Type 0 where
@@ -66,7 +64,11 @@ module _ {E : Type 0} (Owes : ℕ → Legs E → List ℕ → Type 0) where
       pub lines : Lines Owes 1 answered text
       pub gained : out_now ≡ after_told out_first text
 
-    pub starts : (first out : Option (List ℕ)) → Progress first first out out [] 0
+  module _ (o : Ops E) (kinds : List WaveKind) (some : kinds ≢ []) where
+    fronts : GoByFronts o kinds
+    fronts = goes_by_fronts o kinds some
+
+    pub starts : (first out : Option (List ℕ)) → Progress o kinds first first out out [] 0
     starts first out = record {
       came = [];
       answered = [];
@@ -78,14 +80,14 @@ module _ {E : Type 0} (Owes : ℕ → Legs E → List ℕ → Type 0) where
       gained = sym (after_told-nil out);
     }
 
-    module _ (first mid last out_first out_now : Option (List ℕ)) (held : List ℕ) (k : ℕ) (p : Progress first mid out_first out_now held k) (came : List ℕ) (gave : mid ≡ before_told came last) where
+    module _ (first mid last out_first out_now : Option (List ℕ)) (held : List ℕ) (k : ℕ) (p : Progress o kinds first mid out_first out_now held k) (came : List ℕ) (gave : mid ≡ before_told came last) where
       abbrev bytes : List ℕ
       bytes = held ++ came
 
       abbrev pub given : List ℕ
       given = p.came ++ came
 
-      gave_all : first ≡ before_told given last
+      pub gave_all : first ≡ before_told given last
       gave_all = gave_more first mid last p.came came p.gave gave
 
       -- what the bytes say that were given, and then more
@@ -114,7 +116,7 @@ module _ {E : Type 0} (Owes : ℕ → Legs E → List ℕ → Type 0) where
 
         -- and its lines went out
         pub answered_one : (out_next : Option (List ℕ)) (number : ℕ) (line : List ℕ) → number ≡ k + 1 → Owes number legs line → out_next ≡ after_told out_now line
-            → Progress first last out_first out_next rest (k + 1)
+            → Progress o kinds first last out_first out_next rest (k + 1)
         answered_one out_next number line is owes gained = record {
           came = given;
           answered = p.answered ++ legs ∷ [];
@@ -192,6 +194,68 @@ module _ {E : Type 0} (Owes : ℕ → Legs E → List ℕ → Type 0) where
           nothing [] ys e = refl
           nothing (x ∷ xs) ys e = cc
 
+      module _ (within : k ≢ MOST_EVENTS) (n : ℕ) where
+        cut_here : bytes ≢ [] → FrontIsOpen o kinds bytes n → events_after o kinds k bytes ≡ ends (bad (k + 1) n Cut)
+        cut_here h w = fronts.cut k bytes w.0 n within h w.1
+
+      not_none : (x : ℕ) (xs : List ℕ) → bytes ≡ x ∷ xs → bytes ≢ []
+      not_none x xs h q = let r : [] ≡ x ∷ xs = sym q ∙ h in absurd cc
+
+      -- so many events were begun
+      begun_is : (ended : Ended) → events_after o kinds k bytes ≡ ends ended → events_begun o kinds given ≡ k + one_begun ended
+      begun_is ended e =
+          ap (λ (es : Events E). length es.events + one_begun es.ending) (said_ended ended e)
+          ∙ ap (λ n. n + one_begun ended) (ap length (append-nil p.answered) ∙ p.count)
+
+      -- one more than were answered; or no more, and no byte stands behind them or it is too many
+      abbrev pub Begun : Type 0
+      Begun = (k + 1 ≤ events_begun o kinds given) ⊎ (((bytes ≡ []) ⊎ (k ≡ MOST_EVENTS)) × (k ≤ events_begun o kinds given))
+
+      none_begun : bytes ≡ [] → Begun
+      none_begun h = inr (inl h, omega (arith, begun_is at_end (at_end_now h)))
+
+      begun_refused : k ≢ MOST_EVENTS → (n : ℕ) (cause : Cause) → front_of o kinds bytes ≡ bad_line n cause → Begun
+      begun_refused within n cause h = inl (omega (arith, begun_is (bad (k + 1) n cause) (fronts.bad_lines k bytes n cause within h)))
+
+      begun_cut : k ≢ MOST_EVENTS → (n : ℕ) → bytes ≢ [] → FrontIsOpen o kinds bytes n → Begun
+      begun_cut within n h w = inl (omega (arith, begun_is (bad (k + 1) n Cut) (cut_here within n h w)))
+
+      begun_bad : k ≢ MOST_EVENTS → (n : ℕ) (cause : Cause) → Refuses o kinds bytes n cause → Begun
+      begun_bad within n Cut h = begun_cut within n h.0 h.1
+      begun_bad within n TooLong h = begun_refused within n TooLong h
+      begun_bad within n Count h = begun_refused within n Count h
+      begun_bad within n LegNumber h = begun_refused within n LegNumber h
+      begun_bad within n BadNumeral h = begun_refused within n BadNumeral h
+      begun_bad within n NoInverse h = begun_refused within n NoInverse h
+
+      begun_failed : k ≢ MOST_EVENTS → (n : ℕ) (bs : List ℕ) → bytes ≡ bs → FrontIsOpen o kinds bytes n → Begun
+      begun_failed within n [] h w = none_begun h
+      begun_failed within n (x ∷ xs) h w = begun_cut within n (not_none x xs h) w
+
+      module _ (event : Incoming E) (rest : List ℕ) where
+        begun_within : k ≢ MOST_EVENTS → (n : Next) (ending : Ending) → ending_of n ≡ Some ending → GivesEvent o kinds (k + 1) bytes rest event n → Begun
+        begun_within within next.Event ending is h = cc
+        begun_within within next.End ending is h = none_begun h
+        begun_within within (next.Bad m line cause) ending is h = begun_bad within line cause h.1
+        begun_within within next.TooMany ending is h = absurd h
+        begun_within within next.Failed ending is h = begun_failed within h.0 bytes refl h.1
+
+        begun_last : k ≡ MOST_EVENTS → (n : Next) → GivesEnd bytes n → Begun
+        begun_last most next.Event h = absurd h
+        begun_last most next.End h = none_begun h
+        begun_last most (next.Bad m line cause) h = absurd h
+        begun_last most next.TooMany h =
+            let e : events_after o kinds k bytes ≡ ends too_many = ap (λ n. events_after o kinds n bytes) most ∙ fronts.many bytes h in
+            inr (inr most, omega (arith, begun_is too_many e))
+        begun_last most next.Failed h = none_begun h
+
+        pub begun_now : (n : Next) (ending : Ending) → ending_of n ≡ Some ending → MatchBool (nat_eq k MOST_EVENTS) (GivesEnd bytes n) (GivesEvent o kinds (k + 1) bytes rest event n) → Begun
+        begun_now n ending is h = by (nat_eq k MOST_EVENTS) refl h
+          where
+            by : (q : Bool) → nat_eq k MOST_EVENTS ≡ q → MatchBool q (GivesEnd bytes n) (GivesEvent o kinds (k + 1) bytes rest event n) → Begun
+            by true e h = begun_last (eqb-true k MOST_EVENTS e) n h
+            by false e h = begun_within (eqb-false k MOST_EVENTS e) n ending is h
+
       module _ (input out : Side) (a : input.before ≡ first) (b : input.after ≡ last) (c : out.before ≡ out_first) (d : out.after ≡ out_now) where
         gives : (ending : Ending) → StreamedGiven Owes o kinds input out given ending → Streamed Owes o kinds input out ending
         gives ending h = (given, a ∙ gave_all ∙ ap (before_told given) (sym b), h)
@@ -207,12 +271,9 @@ module _ {E : Type 0} (Owes : ℕ → Legs E → List ℕ → Type 0) where
                 gained_all (bad (k + 1) n cause) e out c d,
               )
 
-          cut_here : bytes ≢ [] → FrontIsOpen o kinds bytes n → events_after o kinds k bytes ≡ ends (bad (k + 1) n Cut)
-          cut_here h w = fronts.cut k bytes w.0 n within h w.1
-
           by_cause : (cause : Cause) → Refuses o kinds bytes n cause → AtEnd (next.Bad (k + 1) n cause) last → Streamed Owes o kinds input out (EventFault (fault.Bad (k + 1) n cause))
           by_cause Cut h done =
-              let e = cut_here h.0 h.1 in
+              let e = cut_here within n h.0 h.1 in
               gives (EventFault (fault.Bad (k + 1) n Cut)) (inl (subst NoneLeft (sym b) done), ending_is (bad (k + 1) n Cut) e, gained_all (bad (k + 1) n Cut) e out c d)
           by_cause TooLong h done = refused TooLong h
           by_cause Count h done = refused Count h
@@ -224,7 +285,7 @@ module _ {E : Type 0} (Owes : ℕ → Legs E → List ℕ → Type 0) where
           failed_in : (bs : List ℕ) → bytes ≡ bs → FrontIsOpen o kinds bytes n → Rose input.faults_before input.faults_after → Streamed Owes o kinds input out InputFault
           failed_in [] h w rose = let e = at_end_now h in gives InputFault (rose, inl (ending_is at_end e), gained_all at_end e out c d)
           failed_in (x ∷ xs) h w rose =
-              let e = cut_here (λ q. let r : [] ≡ x ∷ xs = sym q ∙ h in absurd cc) w in
+              let e = cut_here within n (not_none x xs h) w in
               gives InputFault (rose, inr (k + 1, n, ending_is (bad (k + 1) n Cut) e), gained_all (bad (k + 1) n Cut) e out c d)
 
         done_now : bytes ≡ [] → NoneLeft last → Streamed Owes o kinds input out Done
