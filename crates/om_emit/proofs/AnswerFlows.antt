@@ -19,7 +19,7 @@ use Rattle.om_graph.specs.declared.Graph.{Graph}
 use Rattle.om_graph.specs.declared.Key.{Key}
 use Rattle.om_graph.specs.Possible.{flow_lt, unsigned_key}
 use Rattle.om_graph.specs.Reactions.{reaction_of}
-use Rattle.om_graph.proofs.Lists.{in_map, in_mapped}
+use Rattle.om_ring.proofs.Members.{in_map, in_mapped}
 use Rattle.om_keystone.specs.CanonicalGraph.{IsCanonicalOf}
 use Rattle.om_keystone.proofs.Numbers.{rising_mapped}
 use Rattle.om_keystone.proofs.OutwardEdges.{flows_are_theirs, nodes_are_edges}

@@ -29,7 +29,7 @@ use Rattle.om_model.specs.Slots.{in_slots}
 use Rattle.om_model.specs.Theory.{Scattering}
 use Rattle.om_model.specs.Value.{entering, vertex_entry}
 use Rattle.om_model.proofs.Reordering.{reordered_back, reordered_swap, length-reordered}
-use Rattle.om_graph.proofs.Lists.{in_map, in_mapped}
+use Rattle.om_ring.proofs.Members.{in_map, in_mapped}
 use Rattle.om_keystone.specs.EdgeRules.{with_indices}
 use Rattle.om_code.specs.declared.code.Code.{Code}
 use Rattle.om_code.specs.Contents.{EnteringWave, open_slot, slots_of, waves_in_slots}

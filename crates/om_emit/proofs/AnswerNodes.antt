@@ -31,7 +31,6 @@ use Rattle.om_model.specs.Propagator.{EdgeName, denominator, value_or_zero}
 use Rattle.om_model.specs.Theory.{Scattering}
 use Rattle.om_model.specs.TwoSided.{AreOpposite}
 use Rattle.om_model.specs.WellFormed.{IsWellFormed}
-use Rattle.om_model.proofs.Membership.{in_filter}
 use Rattle.om_model.proofs.ModelFields.{anti_row}
 use Rattle.om_model.proofs.TurnedEdge.{opposite}
 use Rattle.om_graph.specs.declared.Graph.{Graph}
@@ -41,7 +40,7 @@ use Rattle.om_graph.specs.Possible.{nodes_at, unsigned}
 use Rattle.om_graph.specs.Reactions.{reaction_of}
 use Rattle.om_graph.specs.Vertices.{Fuses, is_outward}
 use Rattle.om_graph.proofs.KeysOfSides.{outward_of, side_of}
-use Rattle.om_graph.proofs.Lists.{in_map}
+use Rattle.om_ring.proofs.Members.{in_filter, in_map}
 use Rattle.om_graph.proofs.SetNodes.{in_by_number}
 use Rattle.om_keystone.proofs.Numbers.{at_of}
 use Rattle.om_keystone.specs.Built.{is_inner, terms_at, NodesAreBuilt}

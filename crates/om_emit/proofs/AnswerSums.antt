@@ -19,7 +19,7 @@ use Rattle.om_graph.specs.declared.Graph.{Graph}
 use Rattle.om_graph.specs.declared.KeyTerm.{KeyTerm}
 use Rattle.om_graph.specs.Possible.{nodes_at, unsigned_key}
 use Rattle.om_graph.specs.Reactions.{reaction_of}
-use Rattle.om_graph.proofs.Lists.{in_map}
+use Rattle.om_ring.proofs.Members.{in_map}
 use Rattle.om_keystone.specs.Built.{keys_at_flow}
 use Rattle.om_keystone.specs.CanonicalGraph.{IsCanonicalOf}
 use Rattle.om_keystone.specs.NodeWaves.{AreNodeWaves, flow_values, key_value}

@@ -2,6 +2,7 @@
 use Rattle.std.proofs.Common.{ℕ, ◌^◌, ◌<◌, length, inr, sym, ap, subst, arith}
 use Rattle.std.specs.List.{AllByRecursion}
 use Rattle.om_model.specs.ProcessOf.{IsProcessOf}
+use Rattle.om_model.specs.Rules.{HasLengths}
 use Rattle.om_model.specs.WellFormed.{IsWellFormed}
 use Rattle.om_model.specs.declared.model.Model.{Model}
 use Rattle.om_model.specs.declared.process.Process.{Process}
@@ -9,7 +10,7 @@ use Rattle.om_graph.specs.declared.Graph.{Graph}
 use Rattle.om_graph.specs.Reactions.{reaction_of}
 use Rattle.om_keystone.specs.CanonicalGraph.{IsCanonicalOf}
 use Rattle.om_code.specs.declared.code.Code.{Code}
-use Rattle.om_code.specs.Plain.{AreSlots, InParts, IsPlain, IsPlainInstr, IsPlainParticle, IsPlainVertex}
+use Rattle.om_code.specs.Plain.{AreSlots, InParts, IsPlain, IsPlainInstr, IsPlainVertex}
 use Rattle.om_code.specs.SlotPlans.{first_fit}
 use Rattle.om_code.specs.Verified.{IsVerified}
 use Rattle.om_emit.specs.Counts.{CountsNodes}
@@ -37,7 +38,7 @@ module _ (m : Model) (p : Process) (formed : IsWellFormed m) (is : IsProcessOf m
   plain =
       let most = formed.particles in
       let rows = ap (λ (x : Model). length x.particles) code.same_model in
-      let particles : Model → Type 0 = λ x. AllByRecursion IsPlainParticle x.particles in
+      let particles : Model → Type 0 = λ x. AllByRecursion HasLengths x.particles in
       let vertices : Model → Type 0 = λ x. AllByRecursion (IsPlainVertex x.particles) x.vertices in
       let instrs : ℕ → Type 0 = λ v. AllByRecursion (IsPlainInstr v) c.instrs in
       record {

@@ -14,7 +14,7 @@ use Rattle.om_keystone.specs.Built.{is_inner}
 use Rattle.om_code.specs.DenOrder.{den_order}
 use Rattle.om_emit.specs.GraphCode.{den_of, dens_of}
 use Rattle.om_emit.specs.EdgesAbove.{DensAreEdgesAbove}
-use Rattle.om_ring.proofs.Members.{of_filter, in_filter}
+use Rattle.om_ring.proofs.Members.{in_filter}
 use Rattle.om_emit.proofs.DensInOrder.{dens_total}
 
 -- dens that compare alike are one
@@ -103,8 +103,8 @@ unfolding dens_of IsStrictlySortedBy
 dens_are_edges_above anti n nodes = record {
   ordered = fold_ordered anti n (filter is_inner nodes) [] tt;
   members = λ den. (
-    λ i. ⊎_elim (λ z. absurd z) (λ c. let f = of_filter is_inner nodes c.node c.is_node in record { node = c.node; is_node = f.1; inner = f.0; edge = c.edge }) (in_fold anti n (filter is_inner nodes) [] den i),
+    λ i. ⊎_elim (λ z. absurd z) (λ c. let f = (in_filter is_inner c.node nodes).0 c.is_node in record { node = c.node; is_node = f.0; inner = f.1; edge = c.edge }) (in_fold anti n (filter is_inner nodes) [] den i),
     λ h. let P : Den → Type 0 = λ d. In d (fold (put_den anti n) [] (filter is_inner nodes)) in
-        subst P (sym h.edge) (fold_in anti n (filter is_inner nodes) [] h.node (in_filter is_inner nodes h.node h.inner h.is_node)),
+        subst P (sym h.edge) (fold_in anti n (filter is_inner nodes) [] h.node ((in_filter is_inner h.node nodes).1 (h.is_node, h.inner))),
   );
 }

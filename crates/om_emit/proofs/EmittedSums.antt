@@ -37,7 +37,7 @@ placed_below plan n (key flow minus vertex choice branches) h = placed_names pla
 
 all_placed_below : (plan : ℕ → ℕ) (n : ℕ) (xs : List Op) → ((r : ℕ) → In r (concat (map named_in xs)) → plan r < n) → AllBelow n (map (placed_op plan) xs)
 all_placed_below plan n [] h = tt
-all_placed_below plan n (x ∷ xs) h = (placed_below plan n x (λ r i. h r (in_left (named_in x) (concat (map named_in xs)) r i)), all_placed_below plan n xs (λ r i. h r (in_right (named_in x) (concat (map named_in xs)) r i)))
+all_placed_below plan n (x ∷ xs) h = (placed_below plan n x (λ r i. h r (in_left r (named_in x) (concat (map named_in xs)) i)), all_placed_below plan n xs (λ r i. h r (in_right r (named_in x) (concat (map named_in xs)) i)))
 
 named_slots : (n : ℕ) (x : Instr) → AllByRecursion (λ k. k < n) (named_in (op_of x)) → NamesSlots n x
 named_slots n (Load to k) h = h.0

@@ -42,7 +42,7 @@ use Rattle.om_graph.specs.Vertices as vertices
 use Rattle.om_graph.proofs.ColoursFit.{nodes_close}
 use Rattle.om_graph.proofs.FoundOrder.{lists_agree}
 use Rattle.om_graph.proofs.HaveReactions.{well_formed_have_reactions}
-use Rattle.om_graph.proofs.Lists.{in_map}
+use Rattle.om_ring.proofs.Members.{in_map}
 use Rattle.om_graph.proofs.SetNodes.{in_by_number, nodes_of, number_of}
 use Rattle.om_keystone.specs.CanonicalGraph.{IsCanonicalOf}
 use Rattle.om_keystone.specs.InDiagrams.{IsFlowMet}

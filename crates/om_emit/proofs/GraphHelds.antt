@@ -21,7 +21,7 @@ use Rattle.om_model.specs.declared.model.Model.{Model}
 use Rattle.om_model.specs.declared.process.Leg.{Leg}
 use Rattle.om_model.specs.declared.process.Process.{Process}
 use Rattle.om_model.proofs.Counting.{both, either, in_of_times, same_times, times_of_in}
-use Rattle.om_model.proofs.Membership.{in_map, in_filter}
+use Rattle.om_ring.proofs.Members.{in_map, in_filter}
 use Rattle.om_colour.specs.declared.Flow.{Flow}
 use Rattle.om_graph.specs.declared.Graph.{Graph}
 use Rattle.om_graph.specs.declared.Key.{Key}

@@ -5,7 +5,7 @@ use Rattle.std.specs.List.{concat, filter}
 use Rattle.std.proofs.lemmas.List.{get_or-replicate, length-append, length-map, length-replicate}
 use Rattle.std.proofs.lemmas.Option.{same_Some, none-some}
 use Rattle.om_ring.specs.Members.{In}
-use Rattle.om_ring.proofs.Members.{of_filter, few_below}
+use Rattle.om_ring.proofs.Members.{in_filter, few_below}
 use Rattle.om_legs.specs.Legs.{least}
 use Rattle.om_model.specs.Model.{anti_field}
 use Rattle.om_model.specs.ProcessOf.{IsProcessOf}
@@ -69,7 +69,7 @@ nodes_long den terms k (node ∷ nodes) = let a = node_long den terms k node in 
 pub width_small : (ops : List Op) (n : ℕ) → ((r : ℕ) → In r (concat (map named_in ops)) → r < n) → width (map named_in ops) ≤ n
 unfolding width spans_at
 width_small ops n h = greatest_le (spans_at (map named_in ops)) (length (map named_in ops)) n (λ k l.
-    few_below (filter (span_holds (map named_in ops) k) (concat (map named_in ops))) n (λ q i. h q (of_filter (span_holds (map named_in ops) k) (concat (map named_in ops)) q i).1))
+    few_below (filter (span_holds (map named_in ops) k) (concat (map named_in ops))) n (λ q i. h q ((in_filter (span_holds (map named_in ops) k) q (concat (map named_in ops))).0 i).0))
 
 module _ (m : Model) (p : Process) (formed : IsWellFormed m) (is : IsProcessOf m p) (g : Graph) (canonical : IsCanonicalOf (reaction_of m p) g) (c : Code) (code : IsCodeOf m p g c) where
   abbrev n : ℕ

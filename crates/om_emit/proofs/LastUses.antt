@@ -80,7 +80,7 @@ in_lines [] r h = absurd h
 in_lines (x ∷ xs) r h = ⊎_elim
     (λ i. record { place = 0; late = omega arith; within = omega arith; named = i })
     (λ i. let w = in_lines xs r i in let a = w.within in record { place = suc w.place; late = omega arith; within = omega arith; named = w.named })
-    (in_either x (concat xs) r h)
+    (in_either r x (concat xs) h)
 
 after_place : (lines : List (List ℕ)) (i r : ℕ) → After lines i r → IsLater lines i r
 after_place lines zero r h = in_lines lines r h

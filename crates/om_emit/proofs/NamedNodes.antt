@@ -41,7 +41,7 @@ in_all n r (q ∷ rs) h (inr i) = in_all n r rs h.1 i
 
 pub below_named : (n r : ℕ) (ops : List Op) → AllBelow n ops → In r (concat (map named_in ops)) → r < n
 below_named n r [] h i = absurd i
-below_named n r (x ∷ xs) h i = ⊎_elim (λ j. in_all n r (named_in x) h.0 j) (λ j. below_named n r xs h.1 j) (in_either (named_in x) (concat (map named_in xs)) r i)
+below_named n r (x ∷ xs) h i = ⊎_elim (λ j. in_all n r (named_in x) h.0 j) (λ j. below_named n r xs h.1 j) (in_either r (named_in x) (concat (map named_in xs)) i)
 
 terms_below : (k : ℕ) (ts : List Term) → AllByRecursion (IsBelow k) (terms_at ts k) → AllBelow (suc k) (map fuse_op (terms_at ts k))
 unfolding terms_at
@@ -99,7 +99,7 @@ same_op f g (key flow minus vertex choice branches) h = ap (λ rs. key flow minu
 
 pub same_ops : (f g : ℕ → ℕ) (xs : List Op) → ((r : ℕ) → In r (concat (map named_in xs)) → f r ≡ g r) → map (placed_op f) xs ≡ map (placed_op g) xs
 same_ops f g [] h = refl
-same_ops f g (x ∷ xs) h = ap₂ (λ y ys. y ∷ ys) (same_op f g x (λ r i. h r (in_left (named_in x) (concat (map named_in xs)) r i))) (same_ops f g xs (λ r i. h r (in_right (named_in x) (concat (map named_in xs)) r i)))
+same_ops f g (x ∷ xs) h = ap₂ (λ y ys. y ∷ ys) (same_op f g x (λ r i. h r (in_left r (named_in x) (concat (map named_in xs)) i))) (same_ops f g xs (λ r i. h r (in_right r (named_in x) (concat (map named_in xs)) i)))
 
 pub agreeing_plans : (f g : ℕ → ℕ) (xs : List Op) → ((r : ℕ) → is_named (map named_in xs) r ≡ true → f r ≡ g r) → map (placed_op f) xs ≡ map (placed_op g) xs
 unfolding is_named

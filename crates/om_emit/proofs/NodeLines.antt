@@ -33,7 +33,7 @@ use Rattle.om_graph.specs.TreeKeys.{IsReaction}
 use Rattle.om_graph.specs.Vertices.{Fuses, Reaction, branch, fused_slots, fusion, hole_of, partial_in, sets_of, slot_partials, slots_of, upward}
 use Rattle.om_graph.specs.Vertices as vertices
 use Rattle.om_graph.proofs.ColoursFit.{nodes_join}
-use Rattle.om_graph.proofs.Lists.{in_map, in_mapped}
+use Rattle.om_ring.proofs.Members.{in_map, in_mapped}
 use Rattle.om_graph.proofs.SetNodes.{in_by_number, nodes_of, number_of}
 use Rattle.om_emit.proofs.LineEnds.{IsExact, nothing_exact, vertex_exact}
 

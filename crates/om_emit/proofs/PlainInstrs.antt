@@ -5,7 +5,7 @@ use Rattle.std.specs.List.{AllByRecursion, filter, list_all}
 use Rattle.std.proofs.lemmas.Bool.Decides.{nat_tests}
 use Rattle.std.proofs.lemmas.List.{length-map}
 use Rattle.om_ring.specs.Members.{In}
-use Rattle.om_ring.proofs.Members.{of_filter}
+use Rattle.om_ring.proofs.Members.{in_filter, in_map}
 use Rattle.om_legs.specs.declared.branches.Branches.{Branches}
 use Rattle.om_legs.specs.Legs.{least}
 use Rattle.om_model.specs.Model.{anti_field}
@@ -15,7 +15,6 @@ use Rattle.om_model.specs.WellFormed.{IsWellFormed}
 use Rattle.om_model.specs.declared.model.Model.{Model}
 use Rattle.om_model.specs.declared.process.Process.{Process}
 use Rattle.om_model.proofs.Counting.{both}
-use Rattle.om_model.proofs.Membership.{in_map}
 use Rattle.om_graph.specs.declared.Graph.{Graph}
 use Rattle.om_graph.specs.declared.Key.{Key}
 use Rattle.om_graph.specs.declared.KeyTerm.{KeyTerm}
@@ -68,7 +67,7 @@ keys_shape (y ∷ ys) h = (h y (inl refl), keys_shape ys (λ z i. h z (inr i)))
 module _ (den : Key → ℕ) (terms : List Term) (few : (t : Term) → In t terms → length (nodes_of t.branches) ≤ 3) where
   its_terms : (k : ℕ) → AllByRecursion HasShape (map fuse_op (terms_at terms k))
   unfolding terms_at
-  its_terms k = terms_shape (filter (λ t. t.node == k) terms) (λ t i. few t (of_filter (λ (t : Term). t.node == k) terms t i).1)
+  its_terms k = terms_shape (filter (λ t. t.node == k) terms) (λ t i. few t ((in_filter (λ (t : Term). t.node == k) t terms).0 i).0)
 
   node_shape : (k : ℕ) (node : Key) → (is_inner node ≡ false → 1 ≤ least node.legs) → AllByRecursion HasShape (node_ops den terms k node)
   unfolding node_ops HasShape

@@ -12,7 +12,7 @@ use Rattle.om_ring.specs.Members.{In, Different}
 use Rattle.om_code.specs.Spans.{span_holds, width}
 use Rattle.om_code.specs.SlotPlans.{Given, taken_at, give, give_each, given_before, slot_in, slot_or_0, first_fit, slots_used}
 use Rattle.om_emit.specs.Planning.{Planning, give_slot, give_slots, freed, free_slot, free_slots, planned, last_uses}
-use Rattle.om_ring.proofs.Members.{in_map, of_map, in_filter, of_filter, in_from_member, member_from_in, distinct, few_below}
+use Rattle.om_ring.proofs.Members.{in_map, of_map, in_filter, in_from_member, member_from_in, distinct, few_below}
 use Rattle.om_code.proofs.SpanFacts.{Before, After, line_after, after_line, line_before, after_shrinks, before_grows, span_from, parts_of_span, after_named}
 use Rattle.om_code.proofs.FirstFit.{AreGiven, give_each-given, given_before-given, has_slot, first_fit-narrow, first_fit-is, slot_of}
 use Rattle.om_emit.proofs.FreeSlots.{inserted, same_free}
@@ -23,8 +23,8 @@ use Rattle.om_emit.proofs.LastUses.{last_here, last_later}
 one_slot : (given : Given) (g h : ℕ × ℕ) → Different (keys_of given) → In g given → In h given → g.0 ≡ h.0 → g.1 ≡ h.1
 one_slot [] g h d i j e = absurd i
 one_slot (x ∷ xs) g h d (inl p) (inl q) e = ap (λ u. u.1) (p ∙ sym q)
-one_slot (x ∷ xs) g h d (inl p) (inr j) e = absurd (d.0 (let P : ℕ → Type 0 = λ u. In u (keys_of xs) in subst P (sym e ∙ ap (λ u. u.0) p) (in_map (λ u. u.0) xs h j)))
-one_slot (x ∷ xs) g h d (inr i) (inl q) e = absurd (d.0 (let P : ℕ → Type 0 = λ u. In u (keys_of xs) in subst P (e ∙ ap (λ u. u.0) q) (in_map (λ u. u.0) xs g i)))
+one_slot (x ∷ xs) g h d (inl p) (inr j) e = absurd (d.0 (let P : ℕ → Type 0 = λ u. In u (keys_of xs) in subst P (sym e ∙ ap (λ u. u.0) p) (in_map (λ u. u.0) h xs j)))
+one_slot (x ∷ xs) g h d (inr i) (inl q) e = absurd (d.0 (let P : ℕ → Type 0 = λ u. In u (keys_of xs) in subst P (e ∙ ap (λ u. u.0) q) (in_map (λ u. u.0) g xs i)))
 one_slot (x ∷ xs) g h d (inr i) (inr j) e = one_slot xs g h d.1 i j e
 
 -- a slot is held at instruction i by a register that isn't done or is named later
@@ -125,13 +125,13 @@ module _ (lines : List (List ℕ)) (n i : ℕ) (l : i < length lines) (all : Lis
   unfolding taken_at
   held_from_taken q j =
       let u = of_map (λ g. g.1) (filter (λ g. span_holds lines i g.0) given) q j in
-      let v = of_filter (λ g. span_holds lines i g.0) given u.source u.is_in in
-      record { which = u.source; is_given = v.1; holds = v.0; slot = sym u.is; kept = λ z. absurd z }
+      let v = (in_filter (λ g. span_holds lines i g.0) u.source given).0 u.is_in in
+      record { which = u.source; is_given = v.0; holds = v.1; slot = sym u.is; kept = λ z. absurd z }
 
   taken_from_held : (q : ℕ) → IsHeld lines i [] given q → In q (taken_at lines i given)
   unfolding taken_at
   taken_from_held q h = let P : ℕ → Type 0 = λ x. In x (taken_at lines i given) in
-      subst P h.slot (in_map (λ g. g.1) (filter (λ g. span_holds lines i g.0) given) h.which (in_filter (λ g. span_holds lines i g.0) given h.which h.holds h.is_given))
+      subst P h.slot (in_map (λ g. g.1) h.which (filter (λ g. span_holds lines i g.0) given) ((in_filter (λ g. span_holds lines i g.0) h.which given).1 (h.is_given, h.holds)))
 
   next_from_held : (done : List ℕ) → ((q : ℕ) → In q (get_or lines i []) → In q done) → (q : ℕ) → IsHeld lines i done given q → In q (taken_at lines (i + 1) given)
   unfolding taken_at
@@ -140,16 +140,16 @@ module _ (lines : List (List ℕ)) (n i : ℕ) (l : i < length lines) (all : Lis
       let later : After lines (i + 1) h.which.0 = ⊎_elim (λ j. h.kept (whole h.which.0 j)) (λ j. j) (after_line lines i h.which.0 l parts.1) in
       let holds : span_holds lines (i + 1) h.which.0 ≡ true = span_from lines (i + 1) h.which.0 (before_grows lines (i + 1) (i + 1 + 1) h.which.0 (omega arith) parts.0) later in
       let P : ℕ → Type 0 = λ x. In x (taken_at lines (i + 1) given) in
-      subst P h.slot (in_map (λ g. g.1) (filter (λ g. span_holds lines (i + 1) g.0) given) h.which (in_filter (λ g. span_holds lines (i + 1) g.0) given h.which holds h.is_given))
+      subst P h.slot (in_map (λ g. g.1) h.which (filter (λ g. span_holds lines (i + 1) g.0) given) ((in_filter (λ g. span_holds lines (i + 1) g.0) h.which given).1 (h.is_given, holds)))
 
   held_from_next : (done : List ℕ) → (q : ℕ) → In q (taken_at lines (i + 1) given) → IsHeld lines i done given q
   unfolding taken_at
   held_from_next done q j =
       let u = of_map (λ g. g.1) (filter (λ g. span_holds lines (i + 1) g.0) given) q j in
-      let v = of_filter (λ g. span_holds lines (i + 1) g.0) given u.source u.is_in in
-      let parts = parts_of_span lines (i + 1) u.source.0 v.0 in
-      let before : Before lines (i + 1) u.source.0 = line_before lines i u.source.0 l (⊎_elim inl (λ z. inr (a.done_here u.source.0 z)) (a.from u.source.0 (in_map (λ g. g.0) given u.source v.1))) in
-      record { which = u.source; is_given = v.1; holds = span_from lines i u.source.0 before (after_shrinks lines i (i + 1) u.source.0 (omega arith) parts.1); slot = sym u.is; kept = λ z. parts.1 }
+      let v = (in_filter (λ g. span_holds lines (i + 1) g.0) u.source given).0 u.is_in in
+      let parts = parts_of_span lines (i + 1) u.source.0 v.1 in
+      let before : Before lines (i + 1) u.source.0 = line_before lines i u.source.0 l (⊎_elim inl (λ z. inr (a.done_here u.source.0 z)) (a.from u.source.0 (in_map (λ g. g.0) u.source given v.0))) in
+      record { which = u.source; is_given = v.0; holds = span_from lines i u.source.0 before (after_shrinks lines i (i + 1) u.source.0 (omega arith) parts.1); slot = sym u.is; kept = λ z. parts.1 }
 
   line-planned : (p : Planning) → ((r : ℕ) → In r (get_or lines i []) → (r < n) × In r (keys_of given)) → IsPlanned lines n given (λ q. In q (taken_at lines i given)) p
       → IsPlanned lines n given (λ q. In q (taken_at lines (i + 1) given)) (free_slots (last_uses n lines (length lines)) i p (get_or lines i []))

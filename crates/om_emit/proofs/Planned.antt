@@ -41,17 +41,17 @@ least_of_none count taken w = least_free-only taken count (λ t. let l : count <
 take_first : (k : ℕ) (ks : List ℕ) (count : ℕ) (taken : List ℕ) → IsFree (k ∷ ks) count (λ q. In q taken) → IsFree ks count (λ q. In q (taken ++ k ∷ []))
 take_first k ks count taken w = record {
   rising = w.rising.1;
-  each = λ q i. let h = w.each q (inr i) in (h.0, λ t. ⊎_elim h.1 (λ m. ⊎_elim (λ (e : q ≡ k). let l : k < q = w.rising.0 q i in absurd (omega arith)) (λ z. z) m) (in_either taken (k ∷ []) q t));
-  all = λ q l n. ⊎_elim (λ e. absurd (n (in_right taken (k ∷ []) q (inl e)))) (λ i. i) (w.all q l (λ t. n (in_left taken (k ∷ []) q t)));
-  below = λ q t. ⊎_elim (w.below q) (λ m. ⊎_elim (λ e. subst (λ x. x < count) (sym e) (w.each k (inl refl)).0) (λ z. absurd z) m) (in_either taken (k ∷ []) q t);
+  each = λ q i. let h = w.each q (inr i) in (h.0, λ t. ⊎_elim h.1 (λ m. ⊎_elim (λ (e : q ≡ k). let l : k < q = w.rising.0 q i in absurd (omega arith)) (λ z. z) m) (in_either q taken (k ∷ []) t));
+  all = λ q l n. ⊎_elim (λ e. absurd (n (in_right q taken (k ∷ []) (inl e)))) (λ i. i) (w.all q l (λ t. n (in_left q taken (k ∷ []) t)));
+  below = λ q t. ⊎_elim (w.below q) (λ m. ⊎_elim (λ e. subst (λ x. x < count) (sym e) (w.each k (inl refl)).0) (λ z. absurd z) m) (in_either q taken (k ∷ []) t);
 }
 
 take_new : (count : ℕ) (taken : List ℕ) → IsFree [] count (λ q. In q taken) → IsFree [] (count + 1) (λ q. In q (taken ++ count ∷ []))
 take_new count taken w = record {
   rising = tt;
   each = λ q i. absurd i;
-  all = λ q l n. ⊎_elim (λ (b : q < count). absurd (w.all q b (λ t. n (in_left taken (count ∷ []) q t)))) (λ (b : count ≤ q). let e : q ≡ count = omega arith in absurd (n (in_right taken (count ∷ []) q (inl e)))) (cases_lt q count);
-  below = λ q t. ⊎_elim (λ u. let b : q < count = w.below q u in omega arith) (λ m. ⊎_elim (λ (e : q ≡ count). omega arith) (λ z. absurd z) m) (in_either taken (count ∷ []) q t);
+  all = λ q l n. ⊎_elim (λ (b : q < count). absurd (w.all q b (λ t. n (in_left q taken (count ∷ []) t)))) (λ (b : count ≤ q). let e : q ≡ count = omega arith in absurd (n (in_right q taken (count ∷ []) (inl e)))) (cases_lt q count);
+  below = λ q t. ⊎_elim (λ u. let b : q < count = w.below q u in omega arith) (λ m. ⊎_elim (λ (e : q ≡ count). omega arith) (λ z. absurd z) m) (in_either q taken (count ∷ []) t);
 }
 
 -- where the walk has come, within a line
@@ -87,7 +87,7 @@ taken_more lines i given r k h =
 used_more : (given : Given) (r k q : ℕ) → In q (map (λ g. g.1) given) ⊎ (q ≡ k) → In q (map (λ g. g.1) (given ++ (r, k) ∷ []))
 used_more given r k q h =
     let P : List ℕ → Type 0 = λ xs. In q xs in
-    subst P (sym (map-append (λ g. g.1) given ((r, k) ∷ []))) (⊎_elim (λ i. in_left (map (λ g. g.1) given) (k ∷ []) q i) (λ e. in_right (map (λ g. g.1) given) (k ∷ []) q (inl e)) h)
+    subst P (sym (map-append (λ g. g.1) given ((r, k) ∷ []))) (⊎_elim (λ i. in_left q (map (λ g. g.1) given) (k ∷ []) i) (λ e. in_right q (map (λ g. g.1) given) (k ∷ []) (inl e)) h)
 
 module _ (lines : List (List ℕ)) (n i : ℕ) (given : Given) (r : ℕ) (small : r < n) (holds : span_holds lines i r ≡ true) (absent : In r (keys_of given) → ⊥) where
   same_after : (slots : List (Option ℕ)) (k : ℕ) → length slots ≡ n → ((s : ℕ) → s < n → get_or slots s None ≡ slot_in given s) → (s : ℕ) → s < n → get_or (set slots r (Some k)) s None ≡ slot_in (given ++ (r, k) ∷ []) s
@@ -106,7 +106,7 @@ module _ (lines : List (List ℕ)) (n i : ℕ) (given : Given) (r : ℕ) (small 
         same = same_after slots count w.size w.same;
         free = let Q : List ℕ → Type 0 = λ xs. IsFree [] (count + 1) (λ q. In q xs) in subst Q (sym (taken_more lines i given r count holds)) (take_new count (taken_at lines i given) w.free);
         used = λ q l. used_more given r count q (⊎_elim (λ (b : q < count). inl (w.used q b)) (λ (b : count ≤ q). inr (omega arith)) (cases_lt q count));
-        below = λ g j. ⊎_elim (λ m. let b : g.1 < count = w.below g m in omega arith) (λ m. ⊎_elim (λ e. let b : g.1 ≡ count = ap (λ x. x.1) e in omega arith) (λ z. absurd z) m) (in_either given ((r, count) ∷ []) g j);
+        below = λ g j. ⊎_elim (λ m. let b : g.1 < count = w.below g m in omega arith) (λ m. ⊎_elim (λ e. let b : g.1 ≡ count = ap (λ x. x.1) e in omega arith) (λ z. absurd z) m) (in_either g given ((r, count) ∷ []) j);
       })
   new_planned slots (k ∷ ks) count w =
       let e : k ≡ least_free (taken_at lines i given) = sym (least_of_free k ks count (taken_at lines i given) w.free) in
@@ -116,7 +116,7 @@ module _ (lines : List (List ℕ)) (n i : ℕ) (given : Given) (r : ℕ) (small 
         same = same_after slots k w.size w.same;
         free = let Q : List ℕ → Type 0 = λ xs. IsFree ks count (λ q. In q xs) in subst Q (sym (taken_more lines i given r k holds)) (take_first k ks count (taken_at lines i given) w.free);
         used = λ q l. used_more given r k q (inl (w.used q l));
-        below = λ g j. ⊎_elim (w.below g) (λ m. ⊎_elim (λ e. subst (λ x. x < count) (sym (ap (λ x. x.1) e)) (w.free.each k (inl refl)).0) (λ z. absurd z) m) (in_either given ((r, k) ∷ []) g j);
+        below = λ g j. ⊎_elim (w.below g) (λ m. ⊎_elim (λ e. subst (λ x. x < count) (sym (ap (λ x. x.1) e)) (w.free.each k (inl refl)).0) (λ z. absurd z) m) (in_either g given ((r, k) ∷ []) j);
       })
 
 pub give-planned : (lines : List (List ℕ)) (n i : ℕ) (given : Given) (r : ℕ) (p : Planning) → r < n → span_holds lines i r ≡ true → IsPlanned lines n given (λ q. In q (taken_at lines i given)) p → IsPlanned lines n (give lines i given r) (λ q. In q (taken_at lines i (give lines i given r))) (give_slot p r)

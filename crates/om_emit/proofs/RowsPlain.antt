@@ -15,7 +15,7 @@ use Rattle.om_model.specs.ModelLines.{kinds_of}
 use Rattle.om_model.specs.Diagram.{times_in}
 use Rattle.om_model.specs.Parts as parts
 use Rattle.om_model.specs.ProcessOf.{IsProcessOf}
-use Rattle.om_model.specs.Rules.{AllHaveLength, IsFormedVertex}
+use Rattle.om_model.specs.Rules.{HasLengths, IsFormedVertex}
 use Rattle.om_model.specs.Tree.{Tree, legs}
 use Rattle.om_model.specs.Tree.Tree.{leaf, join}
 use Rattle.om_model.specs.WellFormed.{IsWellFormed}
@@ -42,7 +42,7 @@ use Rattle.om_keystone.specs.CanonicalGraph.{IsCanonicalOf}
 use Rattle.om_keystone.proofs.Nodes.{leg_is_leg}
 use Rattle.om_code.specs.declared.code.Code.{Code}
 use Rattle.om_code.specs.declared.code.Den.{Den}
-use Rattle.om_code.specs.Plain.{IsNamed, IsPlainDen, IsPlainParticle, IsPlainVertex, IsProduct}
+use Rattle.om_code.specs.Plain.{IsNamed, IsPlainDen, IsPlainVertex}
 use Rattle.om_code.specs.Rules.{IsDen, IsInner}
 use Rattle.om_machine.proofs.FieldKinds.{is-anti}
 use Rattle.om_emit.specs.GraphCode.{IsCodeOf, den_of, graph_dens}
@@ -55,10 +55,6 @@ use Rattle.om_graph.proofs.SetNodes.{in_by_number}
 pub all_rows : {A : Type 0} (P : A → Type 0) (xs : List A) → ((k : ℕ) (x : A) → slice_get xs k ≡ Some x → P x) → AllByRecursion P xs
 all_rows P [] h = tt
 all_rows P (x ∷ xs) h = (h 0 x refl, all_rows P xs (λ k y e. h (suc k) y e))
-
-products_are : (xs : List (List Numeral)) → AllHaveLength xs → AllByRecursion IsProduct xs
-products_are [] h = tt
-products_are (x ∷ xs) h = (h.0, products_are xs h.1)
 
 few_factors : (s : Structure) → (1 ≤ factor_count s) × (factor_count s ≤ 3)
 few_factors Sss = (omega arith, omega arith)
@@ -89,8 +85,8 @@ module _ (m : Model) (formed : IsWellFormed m) where
   all_named [] e = tt
   all_named (f ∷ fs) e = let b = both (is_field m.particles f) (list_all (is_field m.particles) fs) e in (named f b.0, all_named fs b.1)
 
-  pub plain_particles : AllByRecursion IsPlainParticle m.particles
-  plain_particles = all_rows IsPlainParticle m.particles (λ row p e. let l = (formed.formed_particles row p e).lengths in record { mass = l.0; width = l.1; norm = l.2 })
+  pub plain_particles : AllByRecursion HasLengths m.particles
+  plain_particles = all_rows HasLengths m.particles (λ row p e. (formed.formed_particles row p e).lengths)
 
   plain_vertex : (v : Vertex) → IsFormedVertex m.particles v → IsPlainVertex m.particles v
   plain_vertex v h =
@@ -103,7 +99,7 @@ module _ (m : Model) (formed : IsWellFormed m) where
         fields = all_named v.fields h.pattern.0.fields;
         factor = omega (arith, e, f.0);
         factors = omega (arith, e, f.1);
-        products = products_are v.factors h.limits.0;
+        products = h.limits.0;
       }
 
   pub plain_vertices : AllByRecursion (IsPlainVertex m.particles) m.vertices
