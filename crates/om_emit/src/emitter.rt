@@ -30,7 +30,7 @@ pub const MOST_NUMBERED: usize = 2_147_483_647;
 ///
 /// It has as many slots as the width of its instruction list, and no slot plan of that list has fewer. It keeps all rules of programs,
 /// so nothing is verified again. Takes time n log n in the graph. `NoMemory` is also the answer where
-/// the graph has more nodes or flows than [`MOST_NUMBERED`], of which `build` makes none.
+/// the graph has more nodes or flows than [`MOST_NUMBERED`], far beyond what `build` lets through.
 pub fn emit(
     alloc: Global,
     model: &Model,

@@ -13,7 +13,7 @@ mod planner;
 mod registers;
 mod slot_plan;
 
-pub use emitter::emit;
+pub use emitter::{MOST_NUMBERED, emit};
 pub use slot_plan::{SlotPlan, first_fit};
 
 #[cfg(test)]

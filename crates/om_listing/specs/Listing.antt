@@ -1,5 +1,5 @@
 -- The listing of a graph: its lines, each of them words with single spaces between.
-use Rattle.std.specs.Prelude.{ℕ, Bool, eqb, List, [], ◌∷◌, ◌++◌, length, map, filter, flat_map, decimal, codes}
+use Rattle.std.specs.Prelude.{ℕ, eqb, List, [], ◌∷◌, ◌++◌, length, map, filter, flat_map, decimal, codes}
 use Rattle.std.specs.List.{enumerate_from}
 use Rattle.om_io.specs.Lines.{Words, lines_text}
 use Rattle.om_colour.specs.declared.Flow.{Flow}

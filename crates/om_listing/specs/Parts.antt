@@ -1,7 +1,7 @@
 -- The parts in which the lines of a listing are written.
 use Rattle.std.specs.Prelude.{ℕ, List, [], ◌∷◌, ◌++◌, flat_map}
 use Rattle.std.specs.List.{enumerate_from}
-use Rattle.om_io.specs.Lines.{line_text, lines_text}
+use Rattle.om_io.specs.Lines.{line_text}
 use Rattle.om_colour.specs.declared.Flow.{Flow}
 use Rattle.om_model.specs.declared.model.Particle.{Particle}
 use Rattle.om_model.specs.declared.model.Model.{Model}
