@@ -6,6 +6,7 @@ use Rattle.std.proofs.lemmas.List.{length-append, length-map}
 use Rattle.std.proofs.lemmas.Option.{same_Some}
 use Rattle.om_ring.specs.Members.{In, Different}
 use Rattle.om_ring.proofs.Members.{in_either, in_left, in_map, in_mapped, in_right}
+use Rattle.om_colour.specs.declared.Flow.{Flow}
 use Rattle.om_legs.specs.Legs as sets
 use Rattle.om_model.specs.Order.{IsOrder, Rising}
 use Rattle.om_model.specs.ModelLines.{kinds_of}
@@ -27,6 +28,7 @@ use Rattle.om_graph.proofs.Keystones.{numbered_order}
 use Rattle.om_graph.proofs.Orders.{flow_order, key_order}
 use Rattle.om_graph.proofs.SetNodes.{number_of}
 use Rattle.om_keystone.specs.CanonicalGraph.{IsCanonicalOf}
+use Rattle.om_keystone.specs.InDiagrams.{IsKeyMet, KeyTermOf}
 use Rattle.om_keystone.specs.PartOf.{KeyStandsIn, StandsIn}
 use Rattle.om_keystone.proofs.Numbers.{At, at_all, at_more, at_none, at_of, number_once, of_at}
 use Rattle.om_keystone.proofs.PartOfPossible.{canonical_is_part_of_possible}
@@ -98,8 +100,8 @@ module _ (m : Model) (p : Process) (formed : IsWellFormed m) (is : IsProcessOf m
       let exact = prune_is_exact (fusion r) settled.has_field (λ (k : Key). sets.size k.legs) settled in
       numbers_of flow_lt flow_order g.flows canonical.graph.flows_rise g.keys (λ (y : KeyTerm). y.flow) (λ w i.
           let d = (canonical.graph.flows w).0 i in
-          let term = record { flow = w; vertex = d.0.vertex; choice = d.0.choice; branches = d.1.keys } in
-          let met = record { branches = d.0.parts; have = d.1.have; close = d.1.close } in
+          let term : KeyTermOf Key Flow = record { flow = w; vertex = d.0.vertex; choice = d.0.choice; branches = d.1.keys } in
+          let met : IsKeyMet (fusion r) term = record { branches = d.0.parts; have = d.1.have; close = d.1.close } in
           let possible = (exact.keys term).0 met in
           let n = number_of w g.flows i in
           let b = at_all g.nodes d.1.keys (λ k j. (canonical.graph.nodes k).1 ((exact.nodes k).1 (from_key term possible j))) in

@@ -7,3 +7,4 @@ pub mod Streams
 pub mod CodeAnswers
 pub mod StreamSteps
 pub mod GraphSizes
+pub mod AgreeStreams
