@@ -8,3 +8,4 @@ pub mod CodeAnswers
 pub mod StreamSteps
 pub mod GraphSizes
 pub mod AgreeStreams
+pub mod AgreeAccepted
