@@ -115,7 +115,7 @@ not_true true e = sym e
 not_true false e = refl
 
 -- a node of one leg
-pub is_leg_node : Key → Bool
+abbrev pub is_leg_node : Key → Bool
 is_leg_node node = not (is_inner node)
 
 module _ (m : Model) (p : Process) (formed : IsWellFormed m) (is : IsProcessOf m p) (g : Graph) (canonical : IsCanonicalOf (reaction_of m p) g) where
@@ -239,7 +239,6 @@ module _ (m : Model) (p : Process) (formed : IsWellFormed m) (is : IsProcessOf m
   module _ (c : Code) (code : IsCodeOf m p g c) where
     -- there are at most as many nodes of one leg as legs
     pub few_legs : length (filter is_leg_node g.nodes) ≤ length p.legs
-    unfolding is_leg_node
     few_legs =
         let few = few_images (λ k j. k ≡ (fusion r).leg j) (filter is_leg_node g.nodes) (upto (length p.legs)) (λ x z y a b. a ∙ sym b)
         (different_filter is_leg_node g.nodes (rising_different key_lt key_order.irreflexive g.nodes canonical.graph.nodes_rise))
@@ -251,5 +250,4 @@ module _ (m : Model) (p : Process) (formed : IsWellFormed m) (is : IsProcessOf m
         omega (arith, few, e)
 
     pub few_nodes : length g.nodes ≤ length g.terms + length p.legs
-    unfolding is_leg_node
     few_nodes = let a = few_legs in let b = few_inner in let e = length-filter_both is_inner is_leg_node (λ x. refl) g.nodes in omega (arith, a, b, e)

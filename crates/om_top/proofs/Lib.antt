@@ -9,3 +9,7 @@ pub mod StreamSteps
 pub mod GraphSizes
 pub mod AgreeStreams
 pub mod AgreeAccepted
+pub mod TextLengths
+pub mod InstrLengths
+pub mod TextLength
+pub mod AgreeLength

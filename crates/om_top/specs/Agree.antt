@@ -11,7 +11,7 @@ use Rattle.om_emit.specs.GraphCode.{IsCodeOf}
 use Rattle.om_program_text.specs.ProgramText.{program_text}
 use Rattle.om_asm.specs.InRange.{CodeInRange}
 use Rattle.om_top.specs.EvalRan.{Evaluates}
-use Rattle.om_top.specs.Loads.{IsGraphOf, SaysProgram}
+use Rattle.om_top.specs.Loads.{IsGraphOf, IsProgramFile}
 use Rattle.om_top.specs.Outside.{Side}
 use Rattle.om_top.specs.RunRan.{RunsCode}
 use Rattle.om_top.specs.declared.ending.Ending.{Ending}
@@ -23,9 +23,9 @@ module _ (Holds : Model → Process → Code → Type 0) {E : Type 0} (o : Ops E
       (m : Model) (p : Process) → IsAccepted o m → IsProcessOf m p → (g : Graph) → IsGraphOf m p g → (c : Code) → IsCodeOf m p g c
       → CodeInRange c → Holds m p c
 
--- its text is accepted: it is read as that code, which keeps all rules and has all inverses
-abbrev pub CompiledTextsAreAccepted : {E : Type 0} → Ops E → Type 0
-CompiledTextsAreAccepted o = OfCompiledCodes (λ m p c. SaysProgram o (program_text c) c) o
+-- its text is short enough for a program file and is accepted: it is read as that code, which keeps all rules and has all inverses
+abbrev pub CompiledTextsArePrograms : {E : Type 0} → Ops E → Type 0
+CompiledTextsArePrograms o = OfCompiledCodes (λ m p c. IsProgramFile o (program_text c) c) o
 
 -- for each input `run` owes on it what `eval` owes
 abbrev pub RunOwesWhatEvalOwes : {E : Type 0} → Ops E → (E → List ℕ) → Type 0

@@ -8,13 +8,13 @@ use Rattle.om_keystone.specs.CanonicalGraph.{IsCanonicalOf}
 use Rattle.om_emit.specs.GraphCode.{IsCodeOf}
 use Rattle.om_top.specs.EvalRan.{Evaluates}
 use Rattle.om_top.specs.RunRan.{RunsCode}
-use Rattle.om_top.proofs.AgreeAccepted.{text_is_accepted}
+use Rattle.om_top.proofs.AgreeLength.{text_is_a_program}
 use Rattle.om_top.proofs.AgreeStreams.{code_agrees}
 use Rattle.om_top.proofs.Files.{formed}
 use Rattle.om_top.proofs.laws.compile_and_run_agree.Goals as goal
 
-pub returns-clause-accepted : goal.returns-clause-accepted
-returns-clause-accepted g c = λ m p accepted is graph its code made range. text_is_accepted (g.R.Ring.ops c.args.ring.now) m p accepted is graph its code made range
+pub returns-clause-program : goal.returns-clause-program
+returns-clause-program g c = λ m p accepted is graph its code made range. text_is_a_program (g.R.Ring.ops c.args.ring.now) m p accepted is graph its code made range
 
 pub returns-clause-owed : goal.returns-clause-owed
 returns-clause-owed g c =
