@@ -29,6 +29,7 @@ use Rattle.om_event.specs.declared.kind.WaveKind.{WaveKind}
 use Rattle.om_event.proofs.KindsOfCode.{made_by_kinds}
 use Rattle.om_kernel.specs.Waves.{Kind, a_column, a_row, a_scalar, a_vector}
 use Rattle.om_machine.specs.Events.{IsMadeFor, kind_of_field}
+use Rattle.om_top.specs.Agree.{RunOwesWhatEvalOwes}
 use Rattle.om_top.specs.AnswerText.{answer_text}
 use Rattle.om_top.specs.EvalRan.{Evaluates, OwesAnswer, process_kinds}
 use Rattle.om_top.specs.Outside.{Side}
@@ -37,6 +38,7 @@ use Rattle.om_top.specs.Streamed.{HasNoAmplitude, Lines, Streamed, StreamedGiven
 use Rattle.om_top.specs.declared.ending.Ending.{Ending}
 use Rattle.om_top.specs.declared.ending.Ending.TheVariants as ending
 use Rattle.om_event.proofs.EventKinds.{events_have_kinds}
+use Rattle.om_top.proofs.Files.{formed}
 
 named_kind : (kind : Kind) → kind_named (wave_kind kind) ≡ kind
 named_kind a_scalar = refl
@@ -116,5 +118,12 @@ module _ {E : Type 0} (o : Ops E) (l : Laws o) (show : E → List ℕ) (c : Code
       by (w ∷ ws) e (t ∷ ts) a h =
           streamed_too o (OwesAnswer o show c.model p) (OwesMeaning o show c) kinds meant input out ended (subst (λ ks. Streamed (OwesAnswer o show c.model p) o ks input out ended) (sym same_kinds) h)
 
-  pub code_agrees : (input out : Side) (ended : Ending) → RunsCode o show c input out ended ↔ Evaluates o show c.model p input out ended
+  code_agrees : (input out : Side) (ended : Ending) → RunsCode o show c input out ended ↔ Evaluates o show c.model p input out ended
   code_agrees input out ended = (evaluates input out ended, runs input out ended)
+
+-- said over the model of the code, and then over the model that it is
+pub compiled_agree : {E : Type 0} (o : Ops E) → Laws o → (show : E → List ℕ) → RunOwesWhatEvalOwes o show
+compiled_agree o l show m p accepted is g its c code range input out ended =
+    let Said : Model → Type 0 = λ x. IsWellFormed x → IsProcessOf x p → IsCanonicalOf (reaction_of x p) g → IsCodeOf x p g c
+    → RunsCode o show c input out ended ↔ Evaluates o show x p input out ended in
+    subst Said code.same_model (λ f q n k. code_agrees o l show c p f q g n k input out ended) (formed o m accepted) is its.canonical code

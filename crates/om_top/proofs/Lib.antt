@@ -13,3 +13,4 @@ pub mod TextLengths
 pub mod InstrLengths
 pub mod TextLength
 pub mod AgreeLength
+pub mod AgreeFiles

@@ -1,5 +1,5 @@
 -- That what `compile` writes is a program file, on which `run` does what `eval` does.
-use Rattle.std.specs.Prelude.{ℕ, ◌↔◌, List}
+use Rattle.std.specs.Prelude.{◌≡◌, ℕ, ◌↔◌, List, Some}
 use Rattle.om_ring.specs.Ops.{Ops}
 use Rattle.om_model.specs.ProcessOf.{IsProcessOf}
 use Rattle.om_model.specs.Rules.{IsAccepted}
@@ -12,9 +12,10 @@ use Rattle.om_program_text.specs.ProgramText.{program_text}
 use Rattle.om_asm.specs.InRange.{CodeInRange}
 use Rattle.om_top.specs.EvalRan.{Evaluates}
 use Rattle.om_top.specs.Loads.{IsGraphOf, IsProgramFile}
-use Rattle.om_top.specs.Outside.{Side}
-use Rattle.om_top.specs.RunRan.{RunsCode}
+use Rattle.om_top.specs.Outside.{Failed, IsUntouched, Side}
+use Rattle.om_top.specs.RunRan.{RunRan, RunsCode}
 use Rattle.om_top.specs.declared.ending.Ending.{Ending}
+use Rattle.om_top.specs.declared.ending.Ending.TheVariants.{FileFault, NoMemory, ProgramFault, ProgramTooLong}
 
 module _ (Holds : Model → Process → Code → Type 0) {E : Type 0} (o : Ops E) where
   -- said of the code that `compile` writes for a process over an accepted model, whose numbers are within their types
@@ -27,7 +28,23 @@ module _ (Holds : Model → Process → Code → Type 0) {E : Type 0} (o : Ops E
 abbrev pub CompiledTextsArePrograms : {E : Type 0} → Ops E → Type 0
 CompiledTextsArePrograms o = OfCompiledCodes (λ m p c. IsProgramFile o (program_text c) c) o
 
--- for each input `run` owes on it what `eval` owes
-abbrev pub RunOwesWhatEvalOwes : {E : Type 0} → Ops E → (E → List ℕ) → Type 0
-RunOwesWhatEvalOwes o show =
-    OfCompiledCodes (λ m p c. (input out : Side) (ending : Ending) → RunsCode o show c input out ending ↔ Evaluates o show m p input out ending) o
+module _ {E : Type 0} (o : Ops E) (show : E → List ℕ) where
+  -- what a run on a program of a process leaves: its file isn't refused, and then it leaves what `eval` leaves
+  abbrev pub RunsAsEval : Model → Process → Side → Side → Side → Ending → Type 0
+  RunsAsEval m p file input out ProgramTooLong = ⊥
+  RunsAsEval m p file input out (ProgramFault fault) = ⊥
+  RunsAsEval m p file input out FileFault = Failed file × (IsUntouched input × IsUntouched out)
+  RunsAsEval m p file input out NoMemory = IsUntouched input × IsUntouched out
+  RunsAsEval m p file input out ending = Evaluates o show m p input out ending
+
+  -- for each input `run` owes on the code what `eval` owes
+  abbrev pub RunOwesWhatEvalOwes : Type 0
+  RunOwesWhatEvalOwes =
+      OfCompiledCodes (λ m p c. (input out : Side) (ending : Ending)
+          → RunsCode o show c input out ending ↔ Evaluates o show m p input out ending) o
+
+  -- and so it does on a file that holds the text
+  abbrev pub RunOnTextsIsEval : Type 0
+  RunOnTextsIsEval =
+      OfCompiledCodes (λ m p c. (file input out : Side) → file.before ≡ Some (program_text c) → (ending : Ending)
+          → RunRan o show file input out ending ↔ RunsAsEval m p file input out ending) o
