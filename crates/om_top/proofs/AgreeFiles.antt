@@ -1,9 +1,8 @@
 -- On a file that holds the text of the code of a graph `run` does what `eval` does.
-use Rattle.std.proofs.Common.{◌≡◌, ◌↔◌, ℕ, ◌<◌, ◌≤◌, List, length, Ok, Err, Some, refl, ap, sym, subst, ◌∙◌, arith}
+use Rattle.std.proofs.Common.{◌≡◌, ◌↔◌, ℕ, ◌<◌, List, length, Some, refl, ap, sym, subst, arith}
 use Rattle.std.specs.Prelude.{IfSome}
 use Rattle.om_ring.specs.Ops.{Ops, Laws}
 use Rattle.om_model.specs.Rules.{IsAccepted}
-use Rattle.om_model.specs.declared.model.Model.{Model}
 use Rattle.om_code.specs.declared.code.Code.{Code}
 use Rattle.om_code.proofs.VerifiedFacts.{verified-breaks-none}
 use Rattle.om_program_text.specs.ProgramText.{program_text}

@@ -1,7 +1,7 @@
 -- The text of the code of a graph is short enough for a program file.
-use Rattle.std.proofs.Common.{◌≡◌, ℕ, ◌+◌, ◌*◌, ◌<◌, ◌≤◌, ◌^◌, List, [], ◌∷◌, ◌++◌, length, map, refl, ap, sym, subst, ◌∙◌, arith}
+use Rattle.std.proofs.Common.{◌≡◌, ℕ, ◌+◌, ◌*◌, ◌<◌, ◌≤◌, ◌^◌, List, [], ◌∷◌, ◌++◌, length, map, refl, ap, sym, subst, arith}
 use Rattle.std.specs.Prelude.{codes, decimal}
-use Rattle.std.specs.List.{AllByRecursion, filter}
+use Rattle.std.specs.List.{AllByRecursion}
 use Rattle.std.proofs.lemmas.Fmt.{length-decimal-le}
 use Rattle.om_ring.specs.Ops.{Ops}
 use Rattle.om_colour.specs.declared.Flow.{Flow}
@@ -10,21 +10,17 @@ use Rattle.om_model.specs.ProcessOf.{IsProcessOf}
 use Rattle.om_model.specs.Rules.{HasLengths, IsAccepted}
 use Rattle.om_model.specs.WellFormed.{IsWellFormed}
 use Rattle.om_model.specs.declared.model.Model.{Model}
-use Rattle.om_model.specs.declared.model.Particle.{Particle}
 use Rattle.om_model.specs.declared.process.Process.{Process}
 use Rattle.om_graph.specs.declared.Graph.{Graph}
 use Rattle.om_graph.specs.declared.Key.{Key}
-use Rattle.om_graph.specs.Reactions.{reaction_of}
-use Rattle.om_keystone.specs.Built.{IsBuilt, is_inner}
 use Rattle.om_keystone.proofs.BuiltGraph.{canonical_is_built}
 use Rattle.om_code.specs.declared.code.Code.{Code}
 use Rattle.om_code.specs.Contents.{NamesSlots}
-use Rattle.om_code.specs.Ops.{Op, op_of, placed_op}
+use Rattle.om_code.specs.Ops.{op_of}
 use Rattle.om_code.specs.Plain.{IsPlainDen, IsPlainFlow, IsPlainInstr, IsPlainVertex}
 use Rattle.om_code.specs.SlotPlans.{first_fit}
 use Rattle.om_code.specs.Verified.{IsVerified}
 use Rattle.om_emit.specs.GraphCode.{IsCodeOf, den_place, key_op, nodes_ops, register_lines, register_ops}
-use Rattle.om_emit.specs.GraphWalk.{walk_ops}
 use Rattle.om_emit.proofs.DenMembers.{few_dens}
 use Rattle.om_emit.proofs.EmittedSums.{code_names_slots}
 use Rattle.om_emit.proofs.GraphRules.{slots_small}
@@ -37,7 +33,7 @@ use Rattle.om_top.specs.Loads.{IsGraphOf, IsProgramFile}
 use Rattle.om_top.specs.declared.load.program.TheConstants.{MOST_PROGRAM_BYTES}
 use Rattle.om_top.proofs.AgreeAccepted.{keeps_rules, text_is_accepted}
 use Rattle.om_top.proofs.Files.{formed}
-use Rattle.om_top.proofs.GraphSizes.{few_flows, few_inner, few_legs, few_nodes, few_terms, is_leg_node}
+use Rattle.om_top.proofs.GraphSizes.{few_flows, few_inner, few_legs, few_nodes, few_terms}
 use Rattle.om_top.proofs.InstrLengths.{HasSmallNumbers, bytes_append, bytes_of, bytes_placed, instrs_len, keys_bytes, walk_bytes}
 use Rattle.om_top.proofs.TextLength.{Both, IsShortParticle, all_at, all_both, any, den_line, flow_line, leg_line, name_short, particle_line, small_numbers, vertex_line}
 use Rattle.om_top.proofs.TextLengths.{line_len, lines_append, lines_more, lines_within}
@@ -48,8 +44,16 @@ total_len a b c d e f g h =
 
 grouped : (a b c d e f g h : List Words) → length (lines_text (a ++ b ++ c ++ d ++ e ++ f ++ g ++ h)) ≡ total_len a b c d e f g h
 grouped a b c d e f g h =
-    omega (arith, lines_append a b, lines_append (a ++ b) c, lines_append (a ++ b ++ c) d, lines_append (a ++ b ++ c ++ d) e, lines_append (a ++ b ++ c ++ d ++ e) f,
-    lines_append (a ++ b ++ c ++ d ++ e ++ f) g, lines_append (a ++ b ++ c ++ d ++ e ++ f ++ g) h)
+    omega (
+      arith,
+      lines_append a b,
+      lines_append (a ++ b) c,
+      lines_append (a ++ b ++ c) d,
+      lines_append (a ++ b ++ c ++ d) e,
+      lines_append (a ++ b ++ c ++ d ++ e) f,
+      lines_append (a ++ b ++ c ++ d ++ e ++ f) g,
+      lines_append (a ++ b ++ c ++ d ++ e ++ f ++ g) h,
+    )
 
 version_line : length (line_text (version_words 2)) ≤ 30
 version_line = let e = line_len (codes "omega") (decimal 2 ∷ []) in let d = length-decimal-le 1 2 (omega arith) (omega arith) (omega arith) in omega (arith, e, d)
@@ -97,8 +101,8 @@ module _ {E : Type 0} (o : Ops E) (m : Model) (p : Process) (accepted : IsAccept
       let f = few in let s = slots_few in let w = flows_few in let d = dens_few in
       let plain = subst (λ v. AllByRecursion (IsPlainInstr v) c.instrs) code.version kept.plain.instrs in
       all_rows HasSmallNumbers c.instrs (λ k i e.
-          small_numbers c (omega (arith, f, s)) (omega (arith, f, w)) (omega (arith, f, d)) kept.model.vertices kept.few_legs i (kept.instrs k i e).names
-          (all_at (NamesSlots c.slots) c.instrs (code_names_slots m p g c code) k i e) (all_at InstrInRange c.instrs range.instrs k i e) (all_at (IsPlainInstr 2) c.instrs plain k i e))
+      small_numbers c (omega (arith, f, s)) (omega (arith, f, w)) (omega (arith, f, d)) kept.model.vertices kept.few_legs i (kept.instrs k i e).names
+      (all_at (NamesSlots c.slots) c.instrs (code_names_slots m p g c code) k i e) (all_at InstrInRange c.instrs range.instrs k i e) (all_at (IsPlainInstr 2) c.instrs plain k i e))
 
   abbrev den : Key → ℕ
   den = den_place m (length p.legs) g
@@ -172,10 +176,9 @@ module _ {E : Type 0} (o : Ops E) (m : Model) (p : Process) (accepted : IsAccept
   text_short : length (program_text c) ≤ MOST_PROGRAM_BYTES
   text_short =
       let ps = c.model.particles in
-      let a = version_words c.version ∷ model_words c.model.name ∷ map particle_words ps in
       let whole : length (program_text c)
-          ≡ total_len (version_words c.version ∷ model_words c.model.name ∷ map particle_words ps) (map (vertex_words ps) c.model.vertices) (map (leg_words ps) c.legs) (map flow_words c.flows)
-          (map (den_words ps) c.dens) (slots_lines c.version c.slots) (map (instr_words c.version) c.instrs) (end_words ∷ []) =
+      ≡ total_len (version_words c.version ∷ model_words c.model.name ∷ map particle_words ps) (map (vertex_words ps) c.model.vertices) (map (leg_words ps) c.legs) (map flow_words c.flows)
+      (map (den_words ps) c.dens) (slots_lines c.version c.slots) (map (instr_words c.version) c.instrs) (end_words ∷ []) =
       grouped (version_words c.version ∷ model_words c.model.name ∷ map particle_words ps) (map (vertex_words ps) c.model.vertices) (map (leg_words ps) c.legs) (map flow_words c.flows)
       (map (den_words ps) c.dens) (slots_lines c.version c.slots) (map (instr_words c.version) c.instrs) (end_words ∷ []) in
       let f = few in

@@ -1,8 +1,7 @@
 -- For each input `run` owes on the code of a graph what `eval` owes.
-use Rattle.std.proofs.Common.{◌≡◌, ◌↔◌, ◌⊎◌, inl, inr, ⊎_elim, ℕ, ◌+◌, List, [], ◌∷◌, ◌++◌, map, refl, ap, ap₂, sym, subst, ◌∙◌}
+use Rattle.std.proofs.Common.{◌≡◌, ◌↔◌, ℕ, ◌+◌, List, [], ◌∷◌, ◌++◌, map, refl, ap, ap₂, sym, subst}
 use Rattle.std.specs.List.{AllByRecursion}
 use Rattle.om_ring.specs.Ops.{Ops, Laws}
-use Rattle.om_model.specs.Answer.{Answer}
 use Rattle.om_model.specs.Diagrams.{AreDiagrams}
 use Rattle.om_model.specs.Model.{scattering_of}
 use Rattle.om_model.specs.ModelTable.{model_table}
@@ -18,23 +17,21 @@ use Rattle.om_graph.specs.declared.Graph.{Graph}
 use Rattle.om_graph.specs.Reactions.{reaction_of}
 use Rattle.om_keystone.specs.CanonicalGraph.{IsCanonicalOf}
 use Rattle.om_code.specs.declared.code.Code.{Code}
-use Rattle.om_emit.specs.EmittedAnswer.{MeansAnswer}
 use Rattle.om_emit.specs.GraphCode.{IsCodeOf}
 use Rattle.om_emit.proofs.AnswerFlows.{no_diagram_no_flow}
 use Rattle.om_emit.proofs.EmittedAnswer.{emitted_code_gives_answer}
 use Rattle.om_event.specs.Events.{Legs, events_of}
-use Rattle.om_event.specs.Kinds.{AreKindsOf, HasKinds, kind_named}
+use Rattle.om_event.specs.Kinds.{HasKinds, kind_named}
 use Rattle.om_event.specs.Next.{incoming_of}
 use Rattle.om_event.specs.declared.kind.WaveKind.{WaveKind}
 use Rattle.om_event.proofs.KindsOfCode.{made_by_kinds}
 use Rattle.om_kernel.specs.Waves.{Kind, a_column, a_row, a_scalar, a_vector}
 use Rattle.om_machine.specs.Events.{IsMadeFor, kind_of_field}
 use Rattle.om_top.specs.Agree.{RunOwesWhatEvalOwes}
-use Rattle.om_top.specs.AnswerText.{answer_text}
 use Rattle.om_top.specs.EvalRan.{Evaluates, OwesAnswer, process_kinds}
 use Rattle.om_top.specs.Outside.{Side}
 use Rattle.om_top.specs.RunRan.{OwesMeaning, RunsCode}
-use Rattle.om_top.specs.Streamed.{HasNoAmplitude, Lines, Streamed, StreamedGiven, UnlessNone, kinds_of, wave_kind}
+use Rattle.om_top.specs.Streamed.{Lines, Streamed, StreamedGiven, UnlessNone, kinds_of, wave_kind}
 use Rattle.om_top.specs.declared.ending.Ending.{Ending}
 use Rattle.om_top.specs.declared.ending.Ending.TheVariants as ending
 use Rattle.om_event.proofs.EventKinds.{events_have_kinds}
@@ -104,9 +101,11 @@ module _ {E : Type 0} (o : Ops E) (l : Laws o) (show : E → List ℕ) (c : Code
       by : (ws : List Flow) → c.flows ≡ ws → (ts : List Tree) → diagrams (scattering_of c.model p) ≡ ts → UnlessNone ws input out (Streamed (OwesMeaning o show c) o kinds input out) ended → Evaluates o show c.model p input out ended
       by [] e ts d h = ([], none.1 e, h)
       by (w ∷ ws) e [] d h = absurd (let q = none.0 (subst (AreDiagrams (scattering_of c.model p)) d (diagrams_are (scattering_of c.model p))) in cc)
-      by (w ∷ ws) e (t ∷ ts) d h =
-          (t ∷ ts, subst (AreDiagrams (scattering_of c.model p)) d (diagrams_are (scattering_of c.model p)),
-          subst (λ ks. Streamed (OwesAnswer o show c.model p) o ks input out ended) same_kinds (streamed_too o (OwesMeaning o show c) (OwesAnswer o show c.model p) kinds answered input out ended h))
+      by (w ∷ ws) e (t ∷ ts) d h = (
+        t ∷ ts,
+        subst (AreDiagrams (scattering_of c.model p)) d (diagrams_are (scattering_of c.model p)),
+        subst (λ ks. Streamed (OwesAnswer o show c.model p) o ks input out ended) same_kinds (streamed_too o (OwesMeaning o show c) (OwesAnswer o show c.model p) kinds answered input out ended h),
+      )
 
   runs : (input out : Side) (ended : Ending) → Evaluates o show c.model p input out ended → RunsCode o show c input out ended
   runs input out ended h = by c.flows refl h.0 h.1 h.2

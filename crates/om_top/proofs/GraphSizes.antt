@@ -34,7 +34,6 @@ use Rattle.om_graph.proofs.SetNodes.{number_of}
 use Rattle.om_keystone.specs.Built.{is_inner}
 use Rattle.om_keystone.specs.CanonicalGraph.{IsCanonicalOf}
 use Rattle.om_keystone.specs.InDiagrams.{IsKeyMet, KeyTermOf}
-use Rattle.om_keystone.specs.PartOf.{KeyStandsIn, StandsIn}
 use Rattle.om_keystone.proofs.BuiltGraph.{built_up}
 use Rattle.om_keystone.proofs.Nodes.{leg_or_inner}
 use Rattle.om_keystone.proofs.Numbers.{At, at_all, at_more, at_none, at_of, number_once, of_at}
@@ -42,7 +41,6 @@ use Rattle.om_keystone.proofs.PartOfPossible.{canonical_is_part_of_possible}
 use Rattle.om_keystone.proofs.Reached.{prune_is_exact}
 use Rattle.om_keystone.proofs.Reaching.Reached.{from_key}
 use Rattle.om_keystone.proofs.Settled.{is_settled}
-
 use Rattle.om_code.specs.declared.code.Code.{Code}
 use Rattle.om_emit.specs.GraphCode.{IsCodeOf}
 use Rattle.om_emit.proofs.GraphHelds.{leg_of}
@@ -78,14 +76,14 @@ few_images {A} {B} R (x ∷ xs) ys once d h =
     let im = h x (inl refl) in
     let at = stands_at im.image ys im.among in
     let fewer = few_images R xs (at.front ++ at.behind) once d.1 (λ z i.
-        let jm = h z (inr i) in
-        let P : List B → Type 0 = λ us. In jm.image us in
-        record {
-          image = jm.image;
-          among = others im.image jm.image at.front at.behind (subst P at.whole jm.among)
-              (λ e. d.0 (subst (λ w. In w xs) (once z x im.image (subst (λ w. R z w) e jm.is) im.is) i));
-          is = jm.is;
-        }) in
+    let jm = h z (inr i) in
+    let P : List B → Type 0 = λ us. In jm.image us in
+    record {
+      image = jm.image;
+      among = others im.image jm.image at.front at.behind (subst P at.whole jm.among)
+          (λ e. d.0 (subst (λ w. In w xs) (once z x im.image (subst (λ w. R z w) e jm.is) im.is) i));
+      is = jm.is;
+    }) in
     let long = ap length at.whole ∙ length-append at.front (im.image ∷ at.behind) in
     let short = length-append at.front at.behind in
     omega (arith, fewer, long, short)
@@ -126,16 +124,16 @@ module _ (m : Model) (p : Process) (formed : IsWellFormed m) (is : IsProcessOf m
       let settled = is_settled r (kinds_of m.particles) (well_formed_have_reactions m p formed is) in
       let exact = prune_is_exact (fusion r) settled.has_field (λ (k : Key). sets.size k.legs) settled in
       numbers_of flow_lt flow_order g.flows canonical.graph.flows_rise g.keys (λ (y : KeyTerm). y.flow) (λ w i.
-          let d = (canonical.graph.flows w).0 i in
-          let term : KeyTermOf Key Flow = record { flow = w; vertex = d.0.vertex; choice = d.0.choice; branches = d.1.keys } in
-          let met : IsKeyMet (fusion r) term = record { branches = d.0.parts; have = d.1.have; close = d.1.close } in
-          let possible = (exact.keys term).0 met in
-          let n = number_of w g.flows i in
-          let b = at_all g.nodes d.1.keys (λ k j. (canonical.graph.nodes k).1 ((exact.nodes k).1 (from_key term possible j))) in
-          let x : Numbered = record { made = n.0; vertex = d.0.vertex; choice = d.0.choice; branches = b.0 } in
-          let among = (canonical.graph.keys x).1 (record { flow = w; branches = d.1.keys; is_flow = n.1; are_branches = of_at b.1; met = met }) in
-          let y = in_mapped unsigned_key x g.keys among in
-          (y.0, y.1, subst (λ (z : Numbered). slice_get g.flows z.made ≡ Some w) y.2 n.1))
+      let d = (canonical.graph.flows w).0 i in
+      let term : KeyTermOf Key Flow = record { flow = w; vertex = d.0.vertex; choice = d.0.choice; branches = d.1.keys } in
+      let met : IsKeyMet (fusion r) term = record { branches = d.0.parts; have = d.1.have; close = d.1.close } in
+      let possible = (exact.keys term).0 met in
+      let n = number_of w g.flows i in
+      let b = at_all g.nodes d.1.keys (λ k j. (canonical.graph.nodes k).1 ((exact.nodes k).1 (from_key term possible j))) in
+      let x : Numbered = record { made = n.0; vertex = d.0.vertex; choice = d.0.choice; branches = b.0 } in
+      let among = (canonical.graph.keys x).1 (record { flow = w; branches = d.1.keys; is_flow = n.1; are_branches = of_at b.1; met = met }) in
+      let y = in_mapped unsigned_key x g.keys among in
+      (y.0, y.1, subst (λ (z : Numbered). slice_get g.flows z.made ≡ Some w) y.2 n.1))
 
   abbrev r : Reaction
   r = reaction_of m p
@@ -191,11 +189,11 @@ module _ (m : Model) (p : Process) (formed : IsWellFormed m) (is : IsProcessOf m
         (λ x z y a b. term_once x z (slice_get whole.nodes y.node) (at_numbers whole.nodes (nodes_at y.branches)) y.vertex y.choice a b)
         (rising_different numbered_lt numbered_order.irreflexive (map unsigned g.terms) canonical.graph.terms_rise)
         (λ x i. let t = in_mapped unsigned x g.terms i in let s = part.terms t.0 t.1 in
-            subst (λ (z : Numbered). HasImage TermIs z whole.terms) (sym t.2) (record {
-              image = s.term;
-              among = s.is_term;
-              is = record { among = subst (λ (z : Numbered). In z (map unsigned g.terms)) t.2 i; its_made = s.node; its_vertex = s.vertex; its_choice = s.choice; its_branches = s.branches };
-            })) in
+        subst (λ (z : Numbered). HasImage TermIs z whole.terms) (sym t.2) (record {
+          image = s.term;
+          among = s.is_term;
+          is = record { among = subst (λ (z : Numbered). In z (map unsigned g.terms)) t.2 i; its_made = s.node; its_vertex = s.vertex; its_choice = s.choice; its_branches = s.branches };
+        })) in
         let e = length-map g.terms unsigned in
         omega (arith, few, e)
 
@@ -207,11 +205,11 @@ module _ (m : Model) (p : Process) (formed : IsWellFormed m) (is : IsProcessOf m
         (λ x z y a b. key_once x z (slice_get whole.flows y.flow) (at_numbers whole.nodes (nodes_at y.branches)) y.vertex y.choice a b)
         (rising_different numbered_lt numbered_order.irreflexive (map unsigned_key g.keys) canonical.graph.keys_rise)
         (λ x i. let t = in_mapped unsigned_key x g.keys i in let s = part.keys t.0 t.1 in
-            subst (λ (z : Numbered). HasImage KeyIs z whole.keys) (sym t.2) (record {
-              image = s.key;
-              among = s.is_key;
-              is = record { among = subst (λ (z : Numbered). In z (map unsigned_key g.keys)) t.2 i; its_made = s.flow; its_vertex = s.vertex; its_choice = s.choice; its_branches = s.branches };
-            })) in
+        subst (λ (z : Numbered). HasImage KeyIs z whole.keys) (sym t.2) (record {
+          image = s.key;
+          among = s.is_key;
+          is = record { among = subst (λ (z : Numbered). In z (map unsigned_key g.keys)) t.2 i; its_made = s.flow; its_vertex = s.vertex; its_choice = s.choice; its_branches = s.branches };
+        })) in
         let e = length-map g.keys unsigned_key in
         omega (arith, few, e)
 
@@ -243,9 +241,9 @@ module _ (m : Model) (p : Process) (formed : IsWellFormed m) (is : IsProcessOf m
         let few = few_images (λ k j. k ≡ (fusion r).leg j) (filter is_leg_node g.nodes) (upto (length p.legs)) (λ x z y a b. a ∙ sym b)
         (different_filter is_leg_node g.nodes (rising_different key_lt key_order.irreflexive g.nodes canonical.graph.nodes_rise))
         (λ x i.
-            let f = (in_filter is_leg_node x g.nodes).0 i in
-            let leg = leg_of m p formed is g canonical c code x ((canonical.graph.nodes x).0 f.0) (not_true (is_inner x) f.1) in
-            record { image = leg.leg; among = in_upto_from leg.leg (length p.legs) leg.low leg.high; is = leg.is_leg }) in
+        let f = (in_filter is_leg_node x g.nodes).0 i in
+        let leg = leg_of m p formed is g canonical c code x ((canonical.graph.nodes x).0 f.0) (not_true (is_inner x) f.1) in
+        record { image = leg.leg; among = in_upto_from leg.leg (length p.legs) leg.low leg.high; is = leg.is_leg }) in
         let e = length-upto (length p.legs) in
         omega (arith, few, e)
 

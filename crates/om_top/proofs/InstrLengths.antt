@@ -1,10 +1,8 @@
 -- The length of the instruction lines of the code of a graph, by its terms.
-use Rattle.std.proofs.Common.{◌≡◌, ℕ, suc, ◌+◌, ◌*◌, ◌<◌, ◌≤◌, ◌^◌, List, [], ◌∷◌, ◌++◌, length, map, take, Bool, true, false, cond, not, ◌&&◌, refl, ap, sym, subst, ◌∙◌, arith}
-use Rattle.std.specs.Prelude.{decimal, codes, slice_get, Some, nat_lt, nat_le, ◌==◌}
-use Rattle.std.specs.List.{AllByRecursion, filter, list_all}
-use Rattle.std.proofs.lemmas.Bool.{and_parts, leb-true, ltb-true}
+use Rattle.std.proofs.Common.{◌≡◌, ℕ, suc, ◌+◌, ◌*◌, ◌<◌, ◌≤◌, ◌^◌, List, [], ◌∷◌, ◌++◌, length, map, Bool, true, false, cond, not, refl, ap, arith}
+use Rattle.std.specs.Prelude.{decimal, codes, ◌==◌}
+use Rattle.std.specs.List.{AllByRecursion, filter}
 use Rattle.std.proofs.lemmas.Fmt.{length-decimal-le}
-use Rattle.std.proofs.lemmas.List.{length-append, length-map}
 use Rattle.om_legs.specs.declared.branches.Branches.{Branches}
 use Rattle.om_legs.specs.Legs.{least}
 use Rattle.om_model.specs.TermText.{branch_words, place_word, sign_word, term_words}
@@ -14,12 +12,11 @@ use Rattle.om_graph.specs.declared.Term.{Term}
 use Rattle.om_keystone.specs.Built.{is_inner}
 use Rattle.om_code.specs.declared.code.Instr.{Instr}
 use Rattle.om_code.specs.declared.code.Instr.TheVariants.{Load, Fuse, Prop, Key}
-use Rattle.om_code.specs.Contents.{NamesSlots}
 use Rattle.om_code.specs.Ops.{Op, fuse, key, load, op_of, placed_op, prop}
 use Rattle.om_code.specs.Slots.{nodes_of}
 use Rattle.om_emit.specs.GraphCode.{fuse_op, key_op}
 use Rattle.om_emit.specs.GraphWalk.{behind, front, step_ops, step_rest, walk_ops}
-use Rattle.om_io.specs.Lines.{Words, line_text, lines_text}
+use Rattle.om_io.specs.Lines.{line_text, lines_text}
 use Rattle.om_program_text.specs.ProgramText.{instr_words}
 use Rattle.om_top.proofs.GraphSizes.{is_leg_node}
 use Rattle.om_top.proofs.TextLengths.{line_len, lines_more, words_len, words_within}

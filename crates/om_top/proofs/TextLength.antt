@@ -1,13 +1,10 @@
 -- The length of the text of the code of a graph.
-use Rattle.std.proofs.Common.{◌≡◌, ℕ, zero, suc, ◌+◌, ◌*◌, ◌/◌, ◌%◌, ◌<◌, ◌≤◌, ◌^◌, List, [], ◌∷◌, ◌++◌, length, map, take, Bool, true, false, cond, Option, Some, None, refl, ap, sym, subst, ◌∙◌, arith}
-use Rattle.std.specs.Prelude.{decimal, codes, slice_get, nat_lt, nat_le, ◌&&◌, ◌==◌}
-use Rattle.std.specs.List.{AllByRecursion, filter, join_with_byte, list_all, range_with_len}
+use Rattle.std.proofs.Common.{◌≡◌, ℕ, zero, suc, ◌+◌, ◌/◌, ◌%◌, ◌<◌, ◌≤◌, ◌^◌, List, [], ◌∷◌, ◌++◌, length, map, take, Bool, true, false, cond, Option, Some, None, refl, subst, arith}
+use Rattle.std.specs.Prelude.{decimal, codes, slice_get, ◌==◌}
+use Rattle.std.specs.List.{AllByRecursion, filter, range_with_len}
 use Rattle.std.proofs.lemmas.Bool.{and_parts, leb-true, ltb-true}
 use Rattle.std.proofs.lemmas.Fmt.{length-decimal-le}
-use Rattle.std.proofs.lemmas.List.{length-append, length-map, length-take}
 use Rattle.std.proofs.lemmas.Option.{none-some, same_Some}
-use Rattle.std.proofs.Math.Nat.{le_trans}
-use Rattle.om_ring.specs.Ops.{Ops}
 use Rattle.om_ring.specs.declared.numeral.Numeral.{Numeral}
 use Rattle.om_ring.specs.Numerals.{NumeralFits}
 use Rattle.om_legs.specs.Legs.{every_leg, holds, legs_of}
@@ -36,11 +33,11 @@ use Rattle.om_code.specs.Plain.{IsPlainInstr, IsPlainVertex}
 use Rattle.om_code.specs.Rules.{names_all, size_of}
 use Rattle.om_code.specs.Slots.{nodes_of}
 use Rattle.om_asm.specs.InRange.{InstrInRange, ParticleInRange, VertexInRange}
-use Rattle.om_io.specs.Lines.{Words, line_text, lines_text}
-use Rattle.om_program_text.specs.ProgramText.{den_words, end_words, flow_words, instr_words, leg_words, model_words, particle_words, program_lines, program_text, slots_lines, version_words, vertex_words}
+use Rattle.om_io.specs.Lines.{line_text}
+use Rattle.om_program_text.specs.ProgramText.{den_words, flow_words, leg_words, particle_words, vertex_words}
 use Rattle.om_program_text.specs.Words.{product_word}
 use Rattle.om_top.proofs.InstrLengths.{HasSmallNumbers}
-use Rattle.om_top.proofs.TextLengths.{flow_short, join_short, line_len, lines_append, lines_more, lines_within, product_short, words_append, words_len, words_within}
+use Rattle.om_top.proofs.TextLengths.{flow_short, join_short, line_len, product_short, words_append, words_within}
 
 pub name_short : (bs : List ℕ) → is_name bs ≡ true → length bs ≤ 15
 name_short bs e = leb-true (length bs) 15 (and_parts _ _ (and_parts _ _ (and_parts _ _ e).0).0).1
@@ -67,9 +64,6 @@ structure_short structures.Ffv = omega arith
 structure_short structures.Vvv = omega arith
 structure_short structures.Vvvv = omega arith
 structure_short structures.Gluon4 = omega arith
-
-number_short : (k n : ℕ) → 0 < k → k ≤ 10 → n < 10 ^ k → n < 2 ^ 64 → length (decimal n) ≤ k
-number_short k n some few l m = length-decimal-le k n some l m
 
 -- two facts on each member
 abbrev pub Both : {A : Type 0} → (A → Type 0) → (A → Type 0) → A → Type 0
@@ -103,8 +97,17 @@ IsShortParticle = Both HasLengths ParticleInRange
 pub particle_line : (p : Particle) → IsShortParticle p → length (line_text (particle_words p)) ≤ 1110
 particle_line p h =
     let e = line_len (codes "particle") (p.name ∷ p.anti ∷ spin_word p.spin ∷ product_word p.mass ∷ product_word p.width ∷ product_word p.norm ∷ colour_word p.colour ∷ []) in
-    omega (arith, e, name_short p.name h.1.name, name_short p.anti h.1.anti, spin_short p.spin,
-    product_short p.mass h.0.0.1 h.1.mass, product_short p.width h.0.1.1 h.1.width, product_short p.norm h.0.2.1 h.1.norm, colour_short p.colour)
+    omega (
+      arith,
+      e,
+      name_short p.name h.1.name,
+      name_short p.anti h.1.anti,
+      spin_short p.spin,
+      product_short p.mass h.0.0.1 h.1.mass,
+      product_short p.width h.0.1.1 h.1.width,
+      product_short p.norm h.0.2.1 h.1.norm,
+      colour_short p.colour,
+    )
 
 field_short : (particles : List Particle) → AllByRecursion ParticleInRange particles → (f : ℕ) → length (field_name particles f) ≤ 15
 field_short particles h f = by (particle_of particles f) (λ p e. all_at ParticleInRange particles h (f / 2) p e) (f % 2 == 0)
@@ -127,7 +130,7 @@ module _ (particles : List Particle) (named : AllByRecursion ParticleInRange par
       let Q : List Numeral → Type 0 = Both HasLength (λ p. AllByRecursion NumeralFits p) in
       let d = words_within 352 product_word Q (λ p q. product_short p q.0.1 q.1) v.factors (all_both HasLength (λ p. AllByRecursion NumeralFits p) v.factors h.0.products h.1.factors) in
       let order = h.1.order in
-      let n = number_short 3 v.order (omega arith) (omega arith) (omega (arith, order)) (omega (arith, order)) in
+      let n = length-decimal-le 3 v.order (omega arith) (omega (arith, order)) (omega (arith, order)) in
       omega (arith, e, a, b, d, n, structure_short v.structure, h.0.four, h.0.factors)
 
   pub leg_line : (f : ℕ) → length (line_text (leg_words particles f)) ≤ 20
@@ -139,7 +142,7 @@ module _ (particles : List Particle) (named : AllByRecursion ParticleInRange par
       let every : AllByRecursion (λ k. k < 100) every_leg = small_range 1 12 (omega arith) in
       let f = all_filter (λ k. k < 100) (holds set) every_leg every in
       let a = join_short 43 (map decimal (legs_of set)) in
-      let b = words_within 2 decimal (λ k. k < 100) (λ k l. number_short 2 k (omega arith) (omega arith) (omega (arith, l)) (omega (arith, l))) (legs_of set) f.0 in
+      let b = words_within 2 decimal (λ k. k < 100) (λ k l. length-decimal-le 2 k (omega arith) (omega (arith, l)) (omega (arith, l))) (legs_of set) f.0 in
       let twelve : length every_leg ≡ 12 = refl in
       omega (arith, a, b, f.1, twelve)
 
@@ -163,17 +166,17 @@ module _ (c : Code) (few_slots : c.slots + 1 < 10 ^ 7) (few_flows : length c.flo
 
   pub small_numbers : (i : Instr) → names_all c i ≡ true → NamesSlots c.slots i → InstrInRange i → IsPlainInstr 2 i → HasSmallNumbers i
   small_numbers (Load to leg) e h r p =
-      let l = leb-true leg (size_of c) (and_parts _ _ e).0 in
+      let l : leg ≤ size_of c = leb-true leg (size_of c) (and_parts _ _ e).0 in
       (omega (arith, h, few_slots), omega (arith, l, few_legs))
   small_numbers (Fuse to minus vertex choice b) e h r p =
-      let v = ltb-true vertex (length c.model.vertices) (and_parts _ _ (and_parts _ _ (and_parts _ _ e).0).0).0 in
+      let v : vertex < length c.model.vertices = ltb-true vertex (length c.model.vertices) (and_parts _ _ (and_parts _ _ (and_parts _ _ e).0).0).0 in
       let t = h.0 in let s = r.0 in let n = few_nodes b.count b.nodes in let k = p.most in
       (omega (arith, t, few_slots), omega (arith, v, few_vertices), omega (arith, s), omega (arith, n, k), small_slots (nodes_of b) h.1)
   small_numbers (Prop of den) e h r p =
-      let d = ltb-true den (length c.dens) (and_parts _ _ e).1 in
+      let d : den < length c.dens = ltb-true den (length c.dens) (and_parts _ _ e).1 in
       (omega (arith, h, few_slots), omega (arith, d, few_dens))
   small_numbers (Key flow minus vertex choice b) e h r p =
-      let f = ltb-true flow (length c.flows) (and_parts _ _ (and_parts _ _ e).0).0 in
-      let v = ltb-true vertex (length c.model.vertices) (and_parts _ _ (and_parts _ _ (and_parts _ _ e).0).1).0 in
+      let f : flow < length c.flows = ltb-true flow (length c.flows) (and_parts _ _ (and_parts _ _ e).0).0 in
+      let v : vertex < length c.model.vertices = ltb-true vertex (length c.model.vertices) (and_parts _ _ (and_parts _ _ (and_parts _ _ e).0).1).0 in
       let s = r.0 in let n = few_nodes b.count b.nodes in let k = b.valid.within in
       (omega (arith, f, few_flows), omega (arith, v, few_vertices), omega (arith, s), omega (arith, n, k), small_slots (nodes_of b) h)

@@ -1,5 +1,5 @@
 -- How long words and lines are.
-use Rattle.std.proofs.Common.{◌≡◌, ℕ, zero, suc, ◌+◌, ◌-◌, ◌*◌, ◌<◌, ◌≤◌, ◌^◌, List, [], ◌∷◌, ◌++◌, length, map, Bool, true, false, cond, eqb, ⊎_elim, refl, arith}
+use Rattle.std.proofs.Common.{◌≡◌, ℕ, ◌+◌, ◌-◌, ◌*◌, ◌<◌, ◌≤◌, ◌^◌, List, [], ◌∷◌, ◌++◌, length, map, Bool, true, false, cond, eqb, ⊎_elim, refl, arith}
 use Rattle.std.specs.Prelude.{flat_map, decimal, codes}
 use Rattle.std.specs.List.{AllByRecursion, join_with_byte}
 use Rattle.std.proofs.lemmas.Bool.{cases_lt}
@@ -10,7 +10,7 @@ use Rattle.om_ring.specs.declared.numeral.Numeral.{Numeral}
 use Rattle.om_ring.specs.Numerals.{NumeralFits, mark_text, numeral_text, shown_den, sign_text}
 use Rattle.om_colour.specs.declared.Flow.{Flow}
 use Rattle.om_colour.specs.declared.texts.Extent.TheVariants.{Diagram}
-use Rattle.om_colour.specs.Texts.{flow_bytes, items_text, line_item, line_items, with_commas}
+use Rattle.om_colour.specs.Texts.{flow_bytes, items_text, line_item, line_items}
 use Rattle.om_program_text.specs.Words.{product_word}
 
 -- the bytes of some words, and one more for each
@@ -125,9 +125,9 @@ first_items s [] h l low high = omega (arith, low, high)
 first_items s (e ∷ es) h l low high =
     ⊎_elim
     (λ (small : s < 10).
-        let r = first_items (s + 1) es h.1 (omega (arith, l)) (omega (arith, small)) (omega (arith, high)) in
-        let i = item_more s e 4 (line_items Diagram (s + 1) es) (item_len 1 s e (omega arith) (omega (arith, small)) (omega (arith, small)) h.0) in
-        omega (arith, r, i, small))
+    let r = first_items (s + 1) es h.1 (omega (arith, l)) (omega (arith, small)) (omega (arith, high)) in
+    let i = item_more s e 4 (line_items Diagram (s + 1) es) (item_len 1 s e (omega arith) (omega (arith, small)) (omega (arith, small)) h.0) in
+    omega (arith, r, i, small))
     (λ (large : 10 ≤ s). let r = all_items s (e ∷ es) h l in omega (arith, r, large))
     (cases_lt s 10)
 

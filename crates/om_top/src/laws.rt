@@ -4,9 +4,10 @@ ghost use Rattle.om_top.specs.Agree.{CompiledTextsArePrograms, RunOnTextsIsEval,
 
 use om_ring::Ring;
 
-/// The text that `compile` writes for a process over an accepted model is a program file: it has at most [`crate::load::MOST_PROGRAM_BYTES`]
-/// bytes and is read as the code that was written. For each input `run` owes on it what `eval` owes on the model and the process,
-/// and on a file that holds it `run` ends as `eval` does, unless the file can't be read or memory runs out.
+/// The text that `compile` writes for a process over an accepted model is a program file: it has no
+/// more bytes than such a file may have, and is read as the code that was written, which keeps all
+/// rules. For each input `run` owes on it what `eval` owes on the model and the process. On a file
+/// that holds it `run` leaves what `eval` leaves, unless the file can't be read or memory runs out.
 pub fn compile_and_run_agree<R: Ring>(ring: &R)
     ensures program { CompiledTextsArePrograms (R.ops ring.now) }
     ensures owed { (show : R.E → List ℕ) → RunOwesWhatEvalOwes (R.ops ring.now) show }
