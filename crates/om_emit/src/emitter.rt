@@ -42,6 +42,7 @@ pub fn emit(
     requires canonical { IsCanonicalOf (reaction_of model.now process.now) pruned.now }
     ensures code { IfOk result (IsCodeOf model.now process.now pruned.now) }
     ensures slots { IfOk result (HasFewestSlots model.now process.now pruned.now) }
+    ensures few { IfOk result (λ code. length code.flows ≤ MOST_NUMBERED) }
 {
     let graph = pruned.graph();
     if graph.nodes.len() > MOST_NUMBERED || graph.flows.len() > MOST_NUMBERED {

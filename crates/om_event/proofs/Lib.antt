@@ -1,4 +1,5 @@
 pub mod LineReads
+pub mod LeadingNumbers
 pub mod Held
 pub mod FrontSteps
 pub mod EventSteps

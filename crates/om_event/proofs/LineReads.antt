@@ -65,7 +65,7 @@ one_more line n h =
     let r = later_pieces line n l in
     (e ∙ ap (λ (ps : List (List ℕ)). front_piece line ∷ ps) r, sym (ap length r) ∙ l)
 
-no_length : {A : Type 0} (xs : List A) → length xs ≡ 0 → xs ≡ []
+pub no_length : {A : Type 0} (xs : List A) → length xs ≡ 0 → xs ≡ []
 no_length [] h = refl
 no_length (x ∷ xs) h = cc
 

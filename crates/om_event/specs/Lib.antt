@@ -4,5 +4,6 @@ pub mod Lines
 pub mod LineScan
 pub mod Events
 pub mod Fronts
+pub mod LineFronts
 pub mod Next
 pub mod Laws

@@ -4,6 +4,7 @@
 #![tactic(auto)]
 
 mod cause;
+mod front;
 mod hold;
 mod kind;
 pub mod laws;

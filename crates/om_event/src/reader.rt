@@ -7,6 +7,7 @@ ghost use Rattle.om_event.specs.Kinds.{AreKindsOf, HasKinds};
 ghost use Rattle.om_event.specs.Next.{Stays, Gives, GivesEnd, GivesEvent, AtEnd};
 ghost use Rattle.om_event.specs.declared.limits.TheConstants.{MOST_EVENTS};
 
+use crate::front::leg_at_front;
 use crate::hold::{Hold, Waited};
 use crate::kind::kind_of_field;
 use crate::line::read_leg;
@@ -180,6 +181,12 @@ fn read_event<R: Ring<Mark = L>, S: Source, L>(
     for kind in kinds {
         let before = leg;
         leg += 1;
+        let held = hold.bytes();
+        if let Some(front) = leg_at_front(ring, *kind, leg, held) {
+            event.set(leg, front.leg.momentum, front.leg.wave);
+            hold.drop_front(front.len + 1);
+            continue;
+        }
         match hold.wait_for_line(input) {
             Waited::Line(len) => {
                 match read_leg(ring, *kind, leg, &hold.bytes()[..len], steps) {

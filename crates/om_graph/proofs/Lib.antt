@@ -50,3 +50,6 @@ pub mod SetStep
 pub mod KeyStep
 pub mod WholeGraph
 pub mod OnePossible
+pub mod Valences
+pub mod FirstLegs
+pub mod KeptFillings

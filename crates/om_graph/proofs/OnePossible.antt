@@ -1,5 +1,5 @@
 -- There is one possible graph of a process.
-use Rattle.std.proofs.Common.{◌≡◌, ◌+◌, map, length, ap, arith}
+use Rattle.std.proofs.Common.{map, length, ap, arith}
 use Rattle.std.proofs.lemmas.List.{length-map}
 use Rattle.om_graph.specs.OnePossible.{OnePossible}
 use Rattle.om_graph.specs.Possible.{flow_lt, unsigned, unsigned_key}

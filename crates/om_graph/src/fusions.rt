@@ -1,7 +1,8 @@
 //! What nodes fuse to, found tuple by tuple.
 ghost use Rattle.std.specs.List.Sorted.{IsPermutation, IsSortedBy};
 ghost use Rattle.std.specs.Prelude.{◌≡◌, ℕ, All, IfErr, ◌+◌, ◌≤◌, ◌<◌, [], ◌∷◌, map, flat_map, length, Some, OnOk, false, List};
-ghost use Rattle.om_graph.specs.Caches.{AllBelow, AreMeetings};
+ghost use Rattle.om_graph.specs.Caches.{AllBelow};
+ghost use Rattle.om_graph.specs.Fillings.{AreFillings, filled_at, sides_of};
 ghost use Rattle.om_graph.specs.Graph.{at_numbers, found_lt};
 ghost use Rattle.om_graph.specs.declared.Key.{Key as KeyOf};
 ghost use Rattle.om_graph.specs.Reactions.{reaction_in};
@@ -11,11 +12,13 @@ ghost use Rattle.om_graph.specs.SetWalk.{IsOver};
 ghost use Rattle.om_graph.specs.Tuples.{met, met_from};
 
 use crate::chosen::Chosen;
-use crate::fields::{Meeting, Meetings};
+use crate::fields::Meeting;
+use crate::fillings::Fillings;
 use crate::nodes::Nodes;
+use crate::parts::Parts;
 use crate::reaction::Reaction;
 use crate::signs::is_odd;
-use crate::slots::{fill_around, joined, union_of};
+use crate::slots::{joined, slots_at, union_of};
 use crate::{BuildFault, Key};
 use om_legs::LegSet;
 use std::alloc::Global;
@@ -35,7 +38,7 @@ pub(crate) fn add_tuples(
     alloc: Global,
     reaction: &Reaction<'_>,
     nodes: &Nodes,
-    meetings: &mut Meetings,
+    fillings: &mut Fillings,
     limit: usize,
     parts: &[LegSet],
     chosen: Chosen,
@@ -45,18 +48,18 @@ pub(crate) fn add_tuples(
     requires few { chosen.count + length parts.now ≤ 3 }
     requires known { AllBelow (length nodes.now) (chosen_nodes chosen) }
     requires join { CanMeetFrom (reaction_in reaction.now) nodes.now (chosen_nodes chosen) parts.now }
-    requires cached { AreMeetings (reaction_in reaction.now) false meetings.old }
-    ensures cached { OnOk result (AreMeetings (reaction_in reaction.now) false meetings.new) }
+    requires cached { AreFillings (reaction_in reaction.now) false fillings.old }
+    ensures cached { OnOk result (AreFillings (reaction_in reaction.now) false fillings.new) }
     ensures added { Adds limit (map fused_seen found.old.items) (met_from (λ k. k.legs) (meet_fused (reaction_in reaction.now)) nodes.now (chosen_nodes chosen) parts.now) (map fused_seen found.new.items) result }
 {
     match parts {
-        [] => add_meetings(alloc, reaction, nodes, meetings, limit, chosen, found),
+        [] => add_meetings(alloc, reaction, nodes, fillings, limit, chosen, found),
         [part, more @ ..] => {
             let range = nodes.of(*part);
             for node in range.first..range.end {
                 let chosen = chosen.with(node);
                 if let Err(fault) = add_tuples(
-                    alloc, reaction, nodes, meetings, limit, more, chosen, found,
+                    alloc, reaction, nodes, fillings, limit, more, chosen, found,
                 ) {
                     return Err(fault);
                 }
@@ -70,7 +73,7 @@ fn add_meetings(
     alloc: Global,
     reaction: &Reaction<'_>,
     nodes: &Nodes,
-    meetings: &mut Meetings,
+    fillings: &mut Fillings,
     limit: usize,
     chosen: Chosen,
     found: &mut Vec<Fused>,
@@ -79,18 +82,19 @@ fn add_meetings(
     requires few { chosen.count ≤ 3 }
     requires known { AllBelow (length nodes.now) (chosen_nodes chosen) }
     requires join { (ks : List KeyOf) → at_numbers nodes.now (chosen_nodes chosen) ≡ Some ks → CanMeet (reaction_in reaction.now) ks }
-    requires cached { AreMeetings (reaction_in reaction.now) false meetings.old }
-    ensures cached { OnOk result (AreMeetings (reaction_in reaction.now) false meetings.new) }
+    requires cached { AreFillings (reaction_in reaction.now) false fillings.old }
+    ensures cached { OnOk result (AreFillings (reaction_in reaction.now) false fillings.new) }
     ensures added { Adds limit (map fused_seen found.old.items) (met (meet_fused (reaction_in reaction.now)) nodes.now (chosen_nodes chosen)) (map fused_seen found.new.items) result }
 {
     let all = nodes.keys_of(chosen);
     let keys = &all[..chosen.count];
-    let Ok(place) = meetings.place_of(alloc, reaction, keys) else {
+    if let Err(_) = fillings.find(alloc, reaction, keys) {
         return Err(BuildFault::Memory);
-    };
-    let met = meetings.at(place);
-    for meeting in met {
-        if let Err(fault) = add_choices(reaction, *meeting, keys, limit, chosen, found) {
+    }
+    let fillings = fillings.all();
+    for filling in fillings {
+        let (meeting, parts) = (filling.meeting, &filling.parts);
+        if let Err(fault) = add_choices(reaction, meeting, parts, keys, limit, chosen, found) {
             return Err(fault);
         }
     }
@@ -100,6 +104,7 @@ fn add_meetings(
 fn add_choices(
     reaction: &Reaction<'_>,
     meeting: Meeting,
+    parts: &Parts,
     keys: &[Key],
     limit: usize,
     chosen: Chosen,
@@ -109,13 +114,14 @@ fn add_choices(
     requires few { length keys.now ≤ 3 }
     requires vertex { meeting.vertex < (reaction_in reaction.now).scattering.theory.vertices }
     requires join { CanJoinAt (reaction_in reaction.now) keys.now meeting.vertex meeting.up }
+    requires filled { parts.now ≡ filled_at (reaction_in reaction.now) false meeting (sides_of keys.now) }
     ensures added { Adds limit (map fused_seen found.old.items) (fused_by (reaction_in reaction.now) (chosen_nodes chosen) keys.now meeting) (map fused_seen found.new.items) result }
 {
     let Some(field) = meeting.up else {
         return Ok(());
     };
     let legs = union_of(keys);
-    let slots = fill_around(reaction, meeting.vertex, field, legs, keys);
+    let slots = slots_at(parts, keys);
     let minus = is_odd(&slots, reaction.fermions());
     for choice in 0..reaction.choices(meeting.vertex) {
         let one = Fused {

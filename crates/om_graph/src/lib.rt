@@ -9,7 +9,9 @@
 
 mod chosen;
 mod closings;
+mod edges;
 mod fields;
+mod fillings;
 mod fusions;
 mod key_terms;
 pub mod laws;
@@ -24,6 +26,7 @@ mod slots;
 mod terms;
 #[cfg(test)]
 mod tests;
+mod valence;
 mod walk;
 
 use om_colour::{Flow, Partial};

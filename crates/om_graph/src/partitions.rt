@@ -3,7 +3,7 @@ ghost use Rattle.std.specs.Prelude.{◌≡◌, ℕ, ◌≤◌, ◌++◌, List as
 ghost use Rattle.om_legs.specs.Legs.{all_legs};
 ghost use Rattle.om_legs.specs.Splits.{AreSplits};
 ghost use Rattle.om_model.specs.Diagram.{all_in};
-ghost use Rattle.om_graph.specs.Caches.{AreMeetings};
+ghost use Rattle.om_graph.specs.Fillings.{AreFillings};
 ghost use Rattle.om_graph.specs.Loops.{Adds, CanCloseFrom, CanCloseOver, closed_seen, meet_closed, met_partition};
 ghost use Rattle.om_graph.specs.Reactions.{reaction_in};
 ghost use Rattle.om_graph.specs.Vertices.{is_outward as is_outward_of, keeps_edges};
@@ -11,9 +11,10 @@ ghost use Rattle.om_graph.specs.Vertices.{is_outward as is_outward_of, keeps_edg
 use crate::BuildFault;
 use crate::chosen::Chosen;
 use crate::closings::{Closed, add_tuples};
-use crate::fields::Meetings;
+use crate::fillings::Fillings;
 use crate::nodes::Nodes;
 use crate::reaction::{Reaction, is_outward};
+use crate::valence::has_valence;
 use om_legs::{FourParts, LegSet, ThreeParts, partitions3, partitions4};
 use std::alloc::Global;
 
@@ -28,13 +29,13 @@ pub(crate) fn add_closings(
     requires close { CanCloseOver (reaction_in reaction.now) nodes.now }
     ensures added { (threes fours : ListOf (ListOf ℕ)) × AreSplits 3 (all_legs (reaction_in reaction.now).scattering.size) threes × AreSplits 4 (all_legs (reaction_in reaction.now).scattering.size) fours × Adds limit (map closed_seen found.old.items) (flat_map (met_partition (reaction_in reaction.now) (meet_closed (reaction_in reaction.now)) nodes.now) threes ++ flat_map (met_partition (reaction_in reaction.now) (meet_closed (reaction_in reaction.now)) nodes.now) fours) (map closed_seen found.new.items) result }
 {
-    let mut meetings = Meetings::new(alloc, true);
+    let mut fillings = Fillings::new(alloc, true);
     let threes = partitions3(reaction.size());
     let fours = partitions4(reaction.size());
-    if let Err(fault) = add_threes(alloc, reaction, nodes, &mut meetings, limit, threes, found) {
+    if let Err(fault) = add_threes(alloc, reaction, nodes, &mut fillings, limit, threes, found) {
         return Err(fault);
     }
-    add_fours(alloc, reaction, nodes, &mut meetings, limit, fours, found)
+    add_fours(alloc, reaction, nodes, &mut fillings, limit, fours, found)
 }
 
 // What the nodes of three parts close to, over some splits.
@@ -42,19 +43,19 @@ fn add_threes(
     alloc: Global,
     reaction: &Reaction<'_>,
     nodes: &Nodes,
-    meetings: &mut Meetings,
+    fillings: &mut Fillings,
     limit: usize,
     splits: ThreeParts,
     found: &mut Vec<Closed>,
 ) -> Result<(), BuildFault>
     requires close { (parts : ListOf ℕ) → Contains splits parts → CanCloseFrom (reaction_in reaction.now) nodes.now [] parts }
     requires lengths { (parts : ListOf ℕ) → Contains splits parts → length parts ≡ 3 }
-    requires cached { AreMeetings (reaction_in reaction.now) true meetings.old }
-    ensures cached { OnOk result (AreMeetings (reaction_in reaction.now) true meetings.new) }
+    requires cached { AreFillings (reaction_in reaction.now) true fillings.old }
+    ensures cached { OnOk result (AreFillings (reaction_in reaction.now) true fillings.new) }
     ensures added { Adds limit (map closed_seen found.old.items) (flat_map (met_partition (reaction_in reaction.now) (meet_closed (reaction_in reaction.now)) nodes.now) splits) (map closed_seen found.new.items) result }
 {
     for parts in splits {
-        if let Err(fault) = add_partition(alloc, reaction, nodes, meetings, limit, &parts, found) {
+        if let Err(fault) = add_partition(alloc, reaction, nodes, fillings, limit, &parts, found) {
             return Err(fault);
         }
     }
@@ -66,19 +67,22 @@ fn add_fours(
     alloc: Global,
     reaction: &Reaction<'_>,
     nodes: &Nodes,
-    meetings: &mut Meetings,
+    fillings: &mut Fillings,
     limit: usize,
     splits: FourParts,
     found: &mut Vec<Closed>,
 ) -> Result<(), BuildFault>
     requires close { (parts : ListOf ℕ) → Contains splits parts → CanCloseFrom (reaction_in reaction.now) nodes.now [] parts }
     requires lengths { (parts : ListOf ℕ) → Contains splits parts → length parts ≡ 4 }
-    requires cached { AreMeetings (reaction_in reaction.now) true meetings.old }
-    ensures cached { OnOk result (AreMeetings (reaction_in reaction.now) true meetings.new) }
+    requires cached { AreFillings (reaction_in reaction.now) true fillings.old }
+    ensures cached { OnOk result (AreFillings (reaction_in reaction.now) true fillings.new) }
     ensures added { Adds limit (map closed_seen found.old.items) (flat_map (met_partition (reaction_in reaction.now) (meet_closed (reaction_in reaction.now)) nodes.now) splits) (map closed_seen found.new.items) result }
 {
+    if !has_valence(reaction, 4) {
+        return Ok(());
+    }
     for parts in splits {
-        if let Err(fault) = add_partition(alloc, reaction, nodes, meetings, limit, &parts, found) {
+        if let Err(fault) = add_partition(alloc, reaction, nodes, fillings, limit, &parts, found) {
             return Err(fault);
         }
     }
@@ -91,7 +95,7 @@ fn add_partition(
     alloc: Global,
     reaction: &Reaction<'_>,
     nodes: &Nodes,
-    meetings: &mut Meetings,
+    fillings: &mut Fillings,
     limit: usize,
     parts: &[LegSet],
     found: &mut Vec<Closed>,
@@ -99,13 +103,13 @@ fn add_partition(
     requires some { 3 ≤ length parts.now }
     requires few { length parts.now ≤ 4 }
     requires close { CanCloseFrom (reaction_in reaction.now) nodes.now [] parts.now }
-    requires cached { AreMeetings (reaction_in reaction.now) true meetings.old }
-    ensures cached { OnOk result (AreMeetings (reaction_in reaction.now) true meetings.new) }
+    requires cached { AreFillings (reaction_in reaction.now) true fillings.old }
+    ensures cached { OnOk result (AreFillings (reaction_in reaction.now) true fillings.new) }
     ensures added { Adds limit (map closed_seen found.old.items) (met_partition (reaction_in reaction.now) (meet_closed (reaction_in reaction.now)) nodes.now parts.now) (map closed_seen found.new.items) result }
 {
     if are_outward(parts, reaction.size()) && keep_edges(reaction, parts) {
         let none = Chosen::new();
-        add_tuples(alloc, reaction, nodes, meetings, limit, parts, none, found)
+        add_tuples(alloc, reaction, nodes, fillings, limit, parts, none, found)
     } else {
         Ok(())
     }

@@ -1,17 +1,16 @@
 //! A process over its model, as the vertices of its diagrams see it.
-ghost use Rattle.std.specs.Prelude.{◌≡◌, ◌+◌, ◌*◌, ◌<◌, ◌≤◌, ◌∷◌, ◌&&◌, ◌||◌, IfOk, Some, length, slice_get, IsTrue, map, cond, nat_le};
-ghost use Rattle.om_legs.specs.Legs.{complement, set_of, set_of_one, union};
-ghost use Rattle.om_model.specs.Diagram.{all_in};
+ghost use Rattle.std.specs.Prelude.{◌≡◌, ◌+◌, ◌*◌, ◌<◌, ◌≤◌, ◌∷◌, ◌&&◌, IfOk, Some, length, slice_get, IsTrue, map, cond, nat_le};
+ghost use Rattle.om_legs.specs.Legs.{set_of, set_of_one, union};
 ghost use Rattle.om_model.specs.Model.{colours_of_vertex};
 ghost use Rattle.om_model.specs.Rules.{HasPattern};
 ghost use Rattle.om_graph.specs.Reactions.{is_fermion_leg, reaction_in, HasRows};
 ghost use Rattle.om_model.specs.ProcessOf.{IsProcessOf};
 ghost use Rattle.om_model.specs.WellFormed.{IsWellFormed};
-ghost use Rattle.om_model.specs.Diagrams.{any_in};
 ghost use Rattle.om_model.specs.ModelLines.{is_dirac as is_dirac_of};
-ghost use Rattle.om_graph.specs.Vertices.{is_outward as is_outward_of, keeps_edges as keeps_edges_of, leg_key, lies_in as lies_in_of};
+ghost use Rattle.om_graph.specs.Vertices.{is_outward as is_outward_of, keeps_edges as keeps_edges_of, leg_key};
 
 use crate::Key;
+use crate::edges::keep_all;
 use om_colour::{Choice, ColourRow, partial_of_leg};
 use om_legs::LegSet;
 use om_lorentz::Spin;
@@ -20,13 +19,12 @@ use om_ring::NoMemory;
 use std::alloc::Global;
 use std::marker::Model;
 
-/// Seen as the model and the process.
+/// Seen as the model and the process. `rows` are the rows of the colour table that the vertices have.
 #[derive(Drop)]
 pub(crate) struct Reaction<'a> {
     model: &'a om_model::Model,
     process: &'a Process,
     fermions: LegSet,
-    // the row of the colour table of each vertex
     rows: Vec<ColourRow>,
 }
 
@@ -140,47 +138,6 @@ impl<'a> Reaction<'a> {
     {
         keep_all(self.size(), self.process.edges.as_slice(), rest, parts)
     }
-}
-
-#[tactic(auto, unfolding(om_model::specs::Diagram::all_in))]
-fn keep_all(size: u8, edges: &[LegSet], rest: LegSet, parts: &[LegSet]) -> bool
-    requires some { 0 < size }
-    requires within { size ≤ 12 }
-    ensures { result ≡ all_in (λ e. any_in (λ part. lies_in_of e part || lies_in_of (complement e size) part) (rest ∷ parts.now)) edges.now }
-{
-    match edges {
-        [] => true,
-        [edge, more @ ..] => keeps_edge(size, *edge, rest, parts)
-            && keep_all(size, more, rest, parts),
-    }
-}
-
-#[tactic(auto, unfolding(om_model::specs::Diagrams::any_in))]
-fn keeps_edge(size: u8, edge: LegSet, rest: LegSet, parts: &[LegSet]) -> bool
-    requires some { 0 < size }
-    requires within { size ≤ 12 }
-    ensures { result ≡ any_in (λ part. lies_in_of edge part || lies_in_of (complement edge size) part) (rest ∷ parts.now) }
-{
-    let other = edge.complement(size);
-    lies_in(edge, rest) || lies_in(other, rest) || lies_in_one(edge, other, parts)
-}
-
-#[tactic(auto, unfolding(om_model::specs::Diagrams::any_in))]
-fn lies_in_one(edge: LegSet, other: LegSet, parts: &[LegSet]) -> bool
-    ensures { result ≡ any_in (λ part. lies_in_of edge part || lies_in_of other part) parts.now }
-{
-    match parts {
-        [] => false,
-        [part, more @ ..] => lies_in(edge, *part)
-            || lies_in(other, *part)
-            || lies_in_one(edge, other, more),
-    }
-}
-
-fn lies_in(set: LegSet, part: LegSet) -> bool
-    ensures { result ≡ lies_in_of set part }
-{
-    set.minus(part) == LegSet::empty()
 }
 
 /// Whether a side of an edge of so many legs lies away from the keystone: at most half of the legs, and not leg 1 where it has half.

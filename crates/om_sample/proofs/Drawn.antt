@@ -12,7 +12,8 @@ use Rattle.om_kernel.specs.declared.waves.Wave.{Wave}
 use Rattle.om_kernel.specs.declared.waves.Wave.TheVariants.{Scalar}
 use Rattle.om_kernel.specs.Waves.{a_scalar, kind_of}
 use Rattle.om_model.specs.Diagram.{upto}
-use Rattle.om_code.specs.Waves.{Incoming, minus_four, plus_four, zero_four}
+use Rattle.om_kernel.specs.Components.{plus_four}
+use Rattle.om_code.specs.Waves.{Incoming, minus_four, zero_four}
 use Rattle.om_machine.specs.Events.{HasKindAt}
 use Rattle.om_machine.proofs.WaveForms.{four-eq}
 use Rattle.om_sample.specs.Generator.{state_after}

@@ -1,7 +1,8 @@
 //! The events of a sample.
 ghost use Rattle.std.specs.Prelude.{◌≡◌, ◌≤◌, ◌+◌, ◌*◌, ◌-◌, ℕ};
 ghost use Rattle.om_kernel.specs.declared.waves.Wave.TheVariants.{Scalar as a_scalar};
-ghost use Rattle.om_code.specs.Waves.{minus_four, plus_four, zero_four};
+ghost use Rattle.om_code.specs.Waves.{minus_four, zero_four};
+ghost use Rattle.om_kernel.specs.Components.{plus_four};
 ghost use Rattle.om_code.specs.declared.code.Code.{Code};
 ghost use Rattle.om_machine.specs.Events.{IsMadeFor};
 ghost use Rattle.om_sample.specs.Generator.{state_after};

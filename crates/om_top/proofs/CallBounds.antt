@@ -8,8 +8,11 @@ use Rattle.om_asm.specs.Program.{program_of}
 use Rattle.om_code.specs.declared.code.Code.{Code}
 use Rattle.om_machine.specs.Machines.{LoadedCode}
 use Rattle.om_top.specs.declared.ending.Ending.{Ending}
-use Rattle.om_top.specs.Cost.{FileMayCall, ProgramMayCall, TextMayCall, file_calls, loading_calls, program_calls, rows_calls}
-use Rattle.om_top.specs.Loads.{HoldsModel, HoldsProgram, ReadsProgram}
+use Rattle.om_emit.specs.GraphCode.{IsCodeOf}
+use Rattle.om_graph.specs.declared.Graph.{Graph}
+use Rattle.om_model.specs.declared.process.Process.{Process}
+use Rattle.om_top.specs.Cost.{EvalMayCall, EventsMayCall, FileMayCall, IsCodeFor, ProgramMayCall, TextMayCall, file_calls, loading_calls, program_calls, rows_calls}
+use Rattle.om_top.specs.Loads.{AreNamed, HoldsModel, HoldsProgram, ReadsProgram}
 use Rattle.om_top.specs.Outside.{Side, Holds}
 
 -- a file holds its bytes, or any where it tells none
@@ -54,3 +57,25 @@ module _ {E : Type 0} (o : Ops E) (file : Side) (bytes : List ℕ) (held : Holds
       → (n : ℕ) × ProgramMayCall file result n × (now ≤ before + n * cost)
   program_called (Ok m) says before now cost h = (rows_calls m.code.model, refl, omega (arith, h, ap (λ n. n * cost) (loads_code bytes m.code says.reads)))
   program_called (Err e) says before now cost h = (program_calls bytes, (bytes, held, refl), h)
+
+-- a process was evaluated, or wasn't
+module _ {E : Type 0} (o : Ops E) (file input : Side) (text : List ℕ) (before cost : ℕ) where
+  pub eval_refused : (now : ℕ) → (n : ℕ) × FileMayCall file n × (now ≤ before + n * cost) → (n : ℕ) × EvalMayCall o file text input n × (now ≤ before + n * cost)
+  eval_refused now (n, (bytes, held, is), h) =
+      (2 * n, (bytes, held, 0, inl refl, omega (arith, is)), omega (arith, h))
+
+  module _ (m : Model) (p : Process) (g : Graph) (named : AreNamed o file text m p g) (read loaded now : ℕ) (h : (n : ℕ) × (n ≡ rows_calls m) × (read ≤ before + n * cost)) (k : loaded ≤ read + rows_calls m * cost) where
+    abbrev bytes : List ℕ
+    bytes = named.model.0
+
+    both : file_calls bytes ≡ rows_calls m
+    both = ap (λ said. 200 * rows_read said) named.model.2.says.0
+
+    pub eval_unloaded : (n : ℕ) × EvalMayCall o file text input n × (loaded ≤ before + n * cost)
+    eval_unloaded =
+        (2 * file_calls bytes, (bytes, named.model.1, 0, inl refl, omega arith), omega (arith, k, h.2, ap (λ n. n * cost) h.1, ap (λ n. n * cost) both))
+
+    pub eval_called : (c : Code) → IsCodeOf m p g c → (n : ℕ) × EventsMayCall o c input n × (now ≤ loaded + n * cost) → (n : ℕ) × EvalMayCall o file text input n × (now ≤ before + n * cost)
+    eval_called c is (events, may, l) =
+        let code : IsCodeFor o bytes text c = record { model = m; process = p; graph = g; is_file = named.model.2; says = named.process; is_graph = named.graph; is_code = is } in
+        (2 * file_calls bytes + events, (bytes, named.model.1, events, inr (c, code, may), refl), omega (arith, l, k, h.2, ap (λ n. n * cost) h.1, ap (λ n. n * cost) both))

@@ -113,12 +113,14 @@ module _ {E : Type 0} (o : Ops E) (show : E → List ℕ) (m0 : LoadedCode E) (v
         ended_calls in_first in_last cost initial before after so_far most idle last_one =
             let all = given Owes o kinds some first mid last out_first out_now r.held k p came gave in
             let begun = events_begun o kinds all in
-            let size : length r.kinds ≡ length c.legs = ap length (same_kinds r reading.are) ∙ count_kinds c.model.particles c.legs in
-            (begun * event_calls c, (all, gave_all Owes o kinds some first mid last out_first out_now r.held k p came gave, refl),
-            elim (begun_now Owes o kinds some first mid last out_first out_now r.held k p came gave now rest n ending is (gives_now (r.held ++ came) rest now n gives)) [
-              | inl b ↦ calls_begun begun k (part c) (length c.legs) cost initial before after so_far (omega (arith, most, ap (λ l. l * (32 * cost)) size)) b
-              | inr w ↦ calls_none begun k (part c) (length c.legs) cost initial before after so_far (elim w.0 [ inl none ↦ idle none | inr many ↦ last_one (reading.given ∙ many) ]) w.1
-            ])
+            let size : length r.kinds ≡ length c.legs = ap length (same_kinds r reading.are) ∙ count_kinds c.model.particles c.legs in (
+              begun * event_calls c,
+              (all, gave_all Owes o kinds some first mid last out_first out_now r.held k p came gave, refl),
+              elim (begun_now Owes o kinds some first mid last out_first out_now r.held k p came gave now rest n ending is (gives_now (r.held ++ came) rest now n gives)) [
+                | inl b ↦ calls_begun begun k (part c) (length c.legs) cost initial before after so_far (omega (arith, most, ap (λ l. l * (32 * cost)) size)) b
+                | inr w ↦ calls_none begun k (part c) (length c.legs) cost initial before after so_far (elim w.0 [ inl none ↦ idle none | inr many ↦ last_one (reading.given ∙ many) ]) w.1
+              ],
+            )
 
       -- an event was read and evaluated
       module _ (is : n ≡ next.Event) (within : k ≢ MOST_EVENTS) (kept : HasKinds r.kinds now) (m' : LoadedCode E) (same : m'.code ≡ m.code) (factors : m'.factors ≡ m.factors) (masses : m'.masses ≡ m.masses)

@@ -151,9 +151,9 @@ module _ {E : Type 0} (Owes : ℕ → Legs E → List ℕ → Type 0) where
               ap (λ (es : Events E). es.events) said_given,
               lines_more 1 number p.answered legs p.text line (omega (arith, is, p.count)) p.lines owes,
               (
-                let h = prefix_after out_first out_now out.after p.text line p.gained prefix in
-                (h.0, h.1, h.2 ∙ ap (λ (t : Option (List ℕ)). after_told t (take h.0 (p.text ++ line))) (sym d))
-              ),
+                  let h = prefix_after out_first out_now out.after p.text line p.gained prefix in
+                  (h.0, h.1, h.2 ∙ ap (λ (t : Option (List ℕ)). after_told t (take h.0 (p.text ++ line))) (sym d))
+                  ),
             ),
           ),
         )

@@ -12,6 +12,8 @@ use Rattle.om_asm.specs.Program.{program_of}
 use Rattle.om_asm.specs.Rows.{BadLine}
 use Rattle.om_event.specs.Events.{Events, Ending as Ended, at_end, bad, too_many, events_of}
 use Rattle.om_event.specs.declared.kind.WaveKind.{WaveKind}
+use Rattle.om_sample.specs.Model.{sample_model, sample_process}
+use Rattle.om_sample.specs.declared.limits.TheConstants.{SAMPLE_EVENTS}
 use Rattle.om_top.specs.Command.{Command, check, eval, compile, run, graph, sample}
 use Rattle.om_top.specs.Loads.{IsGraphOf, IsModelFile, IsProgramFile, SaysProcess}
 use Rattle.om_top.specs.Outside.{Outside, Side, Gave, Holds}
@@ -72,6 +74,18 @@ abbrev pub ProgramMayCall : {E : Type 0} → Side → Result (LoadedCode E) Endi
 ProgramMayCall side (Ok m) n = n ≡ rows_calls m.code.model
 ProgramMayCall side (Err ending) n = TextMayCall side n
 
+-- the code of the process of a sample with so many legs
+pub record IsSampleCode (legs : ℕ) (c : Code) : Type 0 where
+  pub graph : Graph
+  pub is_graph : IsGraphOf sample_model (sample_process legs) graph
+  pub is_code : IsCodeOf sample_model (sample_process legs) graph c
+
+-- a sample: nothing; the loading of its code; and beside that 8 for each leg and the code's calls, for each event
+abbrev pub SampleMayCall : ℕ → ℕ → Type 0
+SampleMayCall legs n =
+    (n ≡ rows_calls sample_model)
+    ⊎ ((c : Code) × IsSampleCode legs c × (n ≡ rows_calls sample_model + SAMPLE_EVENTS * (part c + 8 * length c.legs)))
+
 module _ {E : Type 0} (o : Ops E) where
   -- the events that the input gave, answered by a code
   abbrev pub EventsMayCall : Code → Side → ℕ → Type 0
@@ -87,13 +101,12 @@ module _ {E : Type 0} (o : Ops E) where
     pub is_graph : IsGraphOf model process graph
     pub is_code : IsCodeOf model process graph c
 
-  -- beside the reading of the file: nothing, or the loading of a code and the events that were given
+  -- beside the reading of the file and the loading of a code: nothing, or the events that were given
   abbrev pub EvalMayAdd : List ℕ → List ℕ → Side → ℕ → Type 0
-  EvalMayAdd file text input n =
-      (n ≡ 0) ⊎ ((c : Code) × IsCodeFor file text c × (events : ℕ) × EventsMayCall c input events × (n ≡ rows_calls c.model + events))
+  EvalMayAdd file text input n = (n ≡ 0) ⊎ ((c : Code) × IsCodeFor file text c × EventsMayCall c input n)
 
   abbrev pub EvalMayCall : Side → List ℕ → Side → ℕ → Type 0
-  EvalMayCall side text input n = (file : List ℕ) × Holds side file × (more : ℕ) × EvalMayAdd file text input more × (n ≡ file_calls file + more)
+  EvalMayCall side text input n = (file : List ℕ) × Holds side file × (more : ℕ) × EvalMayAdd file text input more × (n ≡ 2 * file_calls file + more)
 
   -- beside the loading of the code: nothing, or the events that were given
   abbrev pub RunMayAdd : List ℕ → Side → ℕ → Type 0
@@ -102,9 +115,6 @@ module _ {E : Type 0} (o : Ops E) where
   abbrev pub RunMayCall : Side → Side → ℕ → Type 0
   RunMayCall side input n = (file : List ℕ) × Holds side file × (more : ℕ) × RunMayAdd file input more × (n ≡ program_calls file + more)
 
-  abbrev pub SampleMayCall : ℕ → ℕ → ℕ → Type 0
-  SampleMayCall seed legs n = n ≡ 0
-
   -- a command makes so many calls at most
   abbrev pub CommandMayCall : Command → Outside → ℕ → Type 0
   CommandMayCall (check name) x n = FileMayCall (x.file name) n
@@ -112,7 +122,7 @@ module _ {E : Type 0} (o : Ops E) where
   CommandMayCall (compile name text) x n = FileMayCall (x.file name) n
   CommandMayCall (run name) x n = RunMayCall (x.file name) x.input n
   CommandMayCall (graph name text) x n = FileMayCall (x.file name) n
-  CommandMayCall (sample seed legs) x n = SampleMayCall seed legs n
+  CommandMayCall (sample seed legs) x n = SampleMayCall legs n
 
   -- a run makes so many calls at most
   abbrev pub MayCall : Option Command → Outside → ℕ → Type 0

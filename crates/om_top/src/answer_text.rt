@@ -15,8 +15,7 @@ use om_colour::{Flow, flow_text};
 use om_io::{Failed, Sink, write_all};
 use om_legs::LegSet;
 use om_machine::{Machine, Outcome};
-use om_model::field_name;
-use om_model::push_leg_set;
+use om_model::{field_name, push_leg_set};
 use om_ring::{Line, Ring};
 
 /// Writes the lines of the answer to event number `number`, which is what the machine answered last.

@@ -7,6 +7,7 @@ mod named;
 mod process;
 mod program;
 
+pub(crate) use graph::load_graph;
 pub(crate) use machine::load_machine;
 pub use model::MOST_MODEL_BYTES;
 pub(crate) use model::load_model;

@@ -8,6 +8,7 @@ ghost use Rattle.om_top.specs.declared.words.TheConstants.{WORD_LIMIT};
 use crate::ending::Ending;
 use crate::load::{load_machine, load_named};
 use crate::stream::answer_events;
+use om_emit::laws::emitted_code_gives_answer;
 use om_io::{Folder, Sink, Source};
 use om_ring::{Ring, Steps};
 use std::alloc::Global;
@@ -32,6 +33,8 @@ pub(crate) fn eval<R: Ring<Mark = L>, F: Folder, S: Source, O: Sink, L>(
         Ok(named) => named,
         Err(ending) => return ending,
     };
+    // what the machine of the graph answers is the answer by all diagrams
+    emitted_code_gives_answer(ring);
     match load_machine(
         alloc,
         ring,

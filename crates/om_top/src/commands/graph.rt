@@ -7,7 +7,8 @@ ghost use Rattle.om_top.specs.declared.words.TheConstants.{WORD_LIMIT};
 
 use crate::ending::Ending;
 use crate::load::load_named;
-use om_io::{Folder, Sink};
+use om_io::{Failed, Folder, Sink};
+use om_listing::write_listing;
 use om_ring::{Ring, Steps};
 use std::alloc::Global;
 
@@ -29,7 +30,8 @@ pub(crate) fn graph<R: Ring<Mark = L>, F: Folder, O: Sink, L>(
         Ok(named) => named,
         Err(ending) => return ending,
     };
-    // Here the listing of named.graph is written.
-    let _ = (named.graph, out);
-    Ending::NoMemory
+    match write_listing(&named.model, &named.graph, out) {
+        Ok(()) => Ending::Done,
+        Err(Failed) => Ending::OutFault,
+    }
 }

@@ -75,12 +75,44 @@ fn sink(alloc: Global, room: usize, fails: u64) -> Result<MemSink, Fail> {
 }
 
 pub(crate) fn check_case(rt: &impl Abort, alloc: Global, case: &Case) -> Result<(), Fail> {
-    let words = texts(alloc, case.words)?;
-    assert!(rt; within_limits(&words));
     let file = match case.file {
         Some(text) => Some(repeated(alloc, text, case.copies, case.end)?),
         None => None,
     };
+    check_with(rt, alloc, case, file)
+}
+
+/// The same with this file model.toml in place of the case's.
+pub(crate) fn check_with(
+    rt: &impl Abort,
+    alloc: Global,
+    case: &Case,
+    file: Option<Vec<u8>>,
+) -> Result<(), Fail> {
+    let left = left_by(rt, alloc, case, file)?;
+    assert_eq!(rt; left.out.bytes(), case.out.as_bytes());
+    assert_eq!(rt; left.err.bytes(), case.err.as_bytes());
+    assert_eq!(rt; left.status, case.status);
+    Ok(())
+}
+
+/// What a run leaves.
+#[derive(Drop)]
+pub(crate) struct Left {
+    pub status: u8,
+    pub out: MemSink,
+    pub err: MemSink,
+}
+
+/// What the run of a case leaves, with this file model.toml.
+pub(crate) fn left_by(
+    rt: &impl Abort,
+    alloc: Global,
+    case: &Case,
+    file: Option<Vec<u8>>,
+) -> Result<Left, Fail> {
+    let words = texts(alloc, case.words)?;
+    assert!(rt; within_limits(&words));
     let name = String::from_str(alloc, "model.toml")?;
     let mut files = MemFolder::new(name, file, vec![in alloc; case.file_fails]?);
     let bytes = case.input.as_bytes().to_vec(alloc)?;
@@ -91,8 +123,5 @@ pub(crate) fn check_case(rt: &impl Abort, alloc: Global, case: &Case) -> Result<
     let status = run(
         alloc, &Zp, &words, &mut files, &mut input, &mut out, &mut err, &mut steps,
     );
-    assert_eq!(rt; out.bytes(), case.out.as_bytes());
-    assert_eq!(rt; err.bytes(), case.err.as_bytes());
-    assert_eq!(rt; status, case.status);
-    Ok(())
+    Ok(Left { status, out, err })
 }

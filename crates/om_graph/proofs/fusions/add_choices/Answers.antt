@@ -1,7 +1,10 @@
-use Rattle.std.proofs.Common.{ℕ, ◌+◌, ◌<◌, ◌++◌, ◌∷◌, [], Option, map, flat_map, length, ap, sym, subst, ◌∙◌}
+use Rattle.std.proofs.Common.{ℕ, List, ◌≤◌, ◌+◌, ◌<◌, ◌++◌, ◌∷◌, [], Option, map, flat_map, length, ap, sym, subst, ◌∙◌}
 use Rattle.om_graph.specs.declared.Key.{Key}
 use Rattle.om_graph.specs.Loops.{Signed, chosen_nodes, counts, fused_at, fused_seen, fused_with}
+use Rattle.om_graph.specs.Fillings.{key_at}
 use Rattle.om_graph.specs.Reactions.{reaction_in}
+use Rattle.om_graph.specs.Vertices.{four_slots, hole_of}
+use Rattle.om_graph.proofs.Filling.{fused_filled}
 use Rattle.om_graph.proofs.FusedKeys.{key_is, found_is, fits_at, minus_is}
 use Rattle.om_graph.proofs.Steps.{none_yet, more, stops}
 use Rattle.om_graph.proofs.fusions.add_choices.Goals as goal
@@ -13,13 +16,13 @@ loop-choice-init c = record {
 }
 
 pub joined-requires-clause-hole : goal.joined-requires-clause-hole
-joined-requires-clause-hole c = let f = fits_at (reaction_in c.args.reaction.now) c.in-Some.field c.args.meeting.vertex c.loop-choice.choice c.args.keys.now c.union_of-legs.result c.fill_around-slots.result.hole c.fill_around-slots.result.keys c.args.meeting.up c.requires.join c.in-Some.is c.union_of-legs.ensures c.fill_around-slots.ensures.keys c.fill_around-slots.ensures.hole (subst (λ n. c.loop-choice.choice < n) c.choices-choice-end.ensures c.loop-choice-test.true) in f.slot
+joined-requires-clause-hole c = let f = fits_at (reaction_in c.args.reaction.now) c.in-Some.field c.args.meeting.vertex c.loop-choice.choice c.args.keys.now c.union_of-legs.result c.slots_at-slots.result.hole c.slots_at-slots.result.keys c.args.meeting.up c.requires.join c.in-Some.is c.union_of-legs.ensures (c.slots_at-slots.ensures.keys ∙ ap four_slots (ap (map (key_at c.args.keys.now)) c.requires.filled ∙ fused_filled (reaction_in c.args.reaction.now) c.in-Some.field c.union_of-legs.result c.args.meeting c.args.keys.now c.in-Some.is c.union_of-legs.ensures)) (c.slots_at-slots.ensures.hole ∙ ap hole_of (ap (map (key_at c.args.keys.now)) c.requires.filled ∙ fused_filled (reaction_in c.args.reaction.now) c.in-Some.field c.union_of-legs.result c.args.meeting c.args.keys.now c.in-Some.is c.union_of-legs.ensures)) (subst (λ n. c.loop-choice.choice < n) c.choices-choice-end.ensures c.loop-choice-test.true) in f.slot
 
 pub joined-requires-clause-free : goal.joined-requires-clause-free
-joined-requires-clause-free c = let f = fits_at (reaction_in c.args.reaction.now) c.in-Some.field c.args.meeting.vertex c.loop-choice.choice c.args.keys.now c.union_of-legs.result c.fill_around-slots.result.hole c.fill_around-slots.result.keys c.args.meeting.up c.requires.join c.in-Some.is c.union_of-legs.ensures c.fill_around-slots.ensures.keys c.fill_around-slots.ensures.hole (subst (λ n. c.loop-choice.choice < n) c.choices-choice-end.ensures c.loop-choice-test.true) in f.free
+joined-requires-clause-free c = let f = fits_at (reaction_in c.args.reaction.now) c.in-Some.field c.args.meeting.vertex c.loop-choice.choice c.args.keys.now c.union_of-legs.result c.slots_at-slots.result.hole c.slots_at-slots.result.keys c.args.meeting.up c.requires.join c.in-Some.is c.union_of-legs.ensures (c.slots_at-slots.ensures.keys ∙ ap four_slots (ap (map (key_at c.args.keys.now)) c.requires.filled ∙ fused_filled (reaction_in c.args.reaction.now) c.in-Some.field c.union_of-legs.result c.args.meeting c.args.keys.now c.in-Some.is c.union_of-legs.ensures)) (c.slots_at-slots.ensures.hole ∙ ap hole_of (ap (map (key_at c.args.keys.now)) c.requires.filled ∙ fused_filled (reaction_in c.args.reaction.now) c.in-Some.field c.union_of-legs.result c.args.meeting c.args.keys.now c.in-Some.is c.union_of-legs.ensures)) (subst (λ n. c.loop-choice.choice < n) c.choices-choice-end.ensures c.loop-choice-test.true) in f.free
 
 pub joined-requires-clause-fit : goal.joined-requires-clause-fit
-joined-requires-clause-fit c = let f = fits_at (reaction_in c.args.reaction.now) c.in-Some.field c.args.meeting.vertex c.loop-choice.choice c.args.keys.now c.union_of-legs.result c.fill_around-slots.result.hole c.fill_around-slots.result.keys c.args.meeting.up c.requires.join c.in-Some.is c.union_of-legs.ensures c.fill_around-slots.ensures.keys c.fill_around-slots.ensures.hole (subst (λ n. c.loop-choice.choice < n) c.choices-choice-end.ensures c.loop-choice-test.true) in f.fits
+joined-requires-clause-fit c = let f = fits_at (reaction_in c.args.reaction.now) c.in-Some.field c.args.meeting.vertex c.loop-choice.choice c.args.keys.now c.union_of-legs.result c.slots_at-slots.result.hole c.slots_at-slots.result.keys c.args.meeting.up c.requires.join c.in-Some.is c.union_of-legs.ensures (c.slots_at-slots.ensures.keys ∙ ap four_slots (ap (map (key_at c.args.keys.now)) c.requires.filled ∙ fused_filled (reaction_in c.args.reaction.now) c.in-Some.field c.union_of-legs.result c.args.meeting c.args.keys.now c.in-Some.is c.union_of-legs.ensures)) (c.slots_at-slots.ensures.hole ∙ ap hole_of (ap (map (key_at c.args.keys.now)) c.requires.filled ∙ fused_filled (reaction_in c.args.reaction.now) c.in-Some.field c.union_of-legs.result c.args.meeting c.args.keys.now c.in-Some.is c.union_of-legs.ensures)) (subst (λ n. c.loop-choice.choice < n) c.choices-choice-end.ensures c.loop-choice-test.true) in f.fits
 
 pub returns-in-Err : goal.returns-in-Err
 returns-in-Err c = record {
@@ -33,8 +36,8 @@ returns-in-Err c = record {
 pub loop-choice-preserved : goal.loop-choice-preserved
 loop-choice-preserved c =
     let r = reaction_in c.args.reaction.now in
-    let k = key_is r c.in-Some.field c.args.meeting.vertex c.loop-choice.choice c.args.keys.now c.union_of-legs.result c.fill_around-slots.result.hole c.fill_around-slots.result.keys c.joined.result c.union_of-legs.ensures c.fill_around-slots.ensures.keys c.fill_around-slots.ensures.hole c.joined.ensures in
-    let m = minus_is r c.in-Some.field c.args.meeting.vertex c.args.keys.now c.union_of-legs.result c.fermions.result c.fill_around-slots.result.keys c.is_odd-minus.result c.union_of-legs.ensures c.fill_around-slots.ensures.keys c.fill_around-slots.ensures.few c.fermions.ensures c.is_odd-minus.ensures in
+    let k = key_is r c.in-Some.field c.args.meeting.vertex c.loop-choice.choice c.args.keys.now c.union_of-legs.result c.slots_at-slots.result.hole c.slots_at-slots.result.keys c.joined.result c.union_of-legs.ensures (c.slots_at-slots.ensures.keys ∙ ap four_slots (ap (map (key_at c.args.keys.now)) c.requires.filled ∙ fused_filled (reaction_in c.args.reaction.now) c.in-Some.field c.union_of-legs.result c.args.meeting c.args.keys.now c.in-Some.is c.union_of-legs.ensures)) (c.slots_at-slots.ensures.hole ∙ ap hole_of (ap (map (key_at c.args.keys.now)) c.requires.filled ∙ fused_filled (reaction_in c.args.reaction.now) c.in-Some.field c.union_of-legs.result c.args.meeting c.args.keys.now c.in-Some.is c.union_of-legs.ensures)) c.joined.ensures in
+    let m = minus_is r c.in-Some.field c.args.meeting.vertex c.args.keys.now c.union_of-legs.result c.fermions.result c.slots_at-slots.result.keys c.is_odd-minus.result c.union_of-legs.ensures (c.slots_at-slots.ensures.keys ∙ ap four_slots (ap (map (key_at c.args.keys.now)) c.requires.filled ∙ fused_filled (reaction_in c.args.reaction.now) c.in-Some.field c.union_of-legs.result c.args.meeting c.args.keys.now c.in-Some.is c.union_of-legs.ensures)) (subst (λ (s : List (Option Key)). length s ≤ 4) (ap (map (key_at c.args.keys.now)) c.requires.filled ∙ fused_filled (reaction_in c.args.reaction.now) c.in-Some.field c.union_of-legs.result c.args.meeting c.args.keys.now c.in-Some.is c.union_of-legs.ensures) c.slots_at-slots.ensures.few) c.fermions.ensures c.is_odd-minus.ensures in
     let x = found_is r c.in-Some.field c.args.meeting.vertex c.loop-choice.choice (chosen_nodes c.args.chosen) c.args.keys.now _ _ k m in
     record {
       all = more (λ k. fused_at (reaction_in c.args.reaction.now) (chosen_nodes c.args.chosen) c.args.keys.now c.in-Some.field c.args.meeting.vertex k ∷ []) c.loop-choice.choice (map fused_seen c.args.found.now.items) (map fused_seen c.loop-choice.found.items) (map fused_seen c.add.new.found.items) c.loop-choice.invariant.all

@@ -1,8 +1,9 @@
-use Rattle.std.proofs.Common.{map, length, arith}
+use Rattle.std.proofs.Common.{map, flat_map, length, arith}
 use Rattle.std.proofs.lemmas.Iterator.Consumers.{YieldsList-from_first, YieldsList-turn, YieldsList-end, YieldsList-so_far}
 use Rattle.om_graph.specs.Loops.{fused_seen, meet_fused, met_parts}
 use Rattle.om_graph.specs.Reactions.{reaction_in}
 use Rattle.om_graph.proofs.Steps.{all_yielded, one_yielded, stops_yielded, contained}
+use Rattle.om_graph.proofs.Valences.{no_fusions, nothing_added}
 use Rattle.om_graph.proofs.set_fusions.add_triples.Goals as goal
 
 pub add_split-requires-clause-join : goal.add_split-requires-clause-join
@@ -36,3 +37,10 @@ pub returns-clause-added : goal.returns-clause-added
 returns-clause-added c =
     let t = YieldsList-end (YieldsList-from_first (λ x. x) (λ left. left) c.args.splits c.into_iter-parts-iterator.ensures.into_iter_gives) c.loop-parts.yielded c.loop-parts.parts-iterator c.loop-parts.yielded_by c.next.result c.next.new.self c.in-None.is c.next.ensures.steps in
     (all_yielded (met_parts (reaction_in c.args.reaction.now) (meet_fused (reaction_in c.args.reaction.now)) c.args.nodes.now c.args.rest) c.args.splits c.loop-parts.yielded (map fused_seen c.args.found.now.items) (map fused_seen c.loop-parts.found.items) t.0 c.loop-parts.invariant.all, c.loop-parts.invariant.fits)
+
+pub returns-then-not-has_valence-clause-added : goal.returns-then-not-has_valence-clause-added
+returns-then-not-has_valence-clause-added c = (
+  nothing_added (map fused_seen c.args.found.now.items) (flat_map (met_parts (reaction_in c.args.reaction.now) (meet_fused (reaction_in c.args.reaction.now)) c.args.nodes.now c.args.rest) c.args.splits)
+      (no_fusions (reaction_in c.args.reaction.now) 4 (c.has_valence.ensures c.if-not-has_valence.true) c.args.nodes.now c.args.rest c.args.splits (λ parts k. let l = c.requires.lengths parts k in omega arith)),
+  λ h. h,
+)

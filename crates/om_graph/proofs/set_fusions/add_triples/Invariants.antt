@@ -1,5 +1,5 @@
 use Rattle.std.proofs.Common.{◌≡◌, ◌++◌, map, flat_map, ◌≤◌, length, false}
-use Rattle.om_graph.specs.Caches.{AreMeetings}
+use Rattle.om_graph.specs.Fillings.{AreFillings}
 use Rattle.om_graph.specs.Loops.{fused_seen, meet_fused, met_parts}
 use Rattle.om_graph.specs.Reactions.{reaction_in}
 use Rattle.om_graph.proofs.set_fusions.add_triples.Given as goal
@@ -8,5 +8,5 @@ abbrev pub invariant-loop-parts : goal.invariant-loop-parts
 invariant-loop-parts l = record {
   all : map fused_seen l.found.items ≡ map fused_seen l.initial.found.items ++ flat_map (met_parts (reaction_in l.reaction) (meet_fused (reaction_in l.reaction)) l.nodes l.rest) l.yielded;
   fits : length (map fused_seen l.initial.found.items) ≤ l.limit → length (map fused_seen l.found.items) ≤ l.limit;
-  cached : AreMeetings (reaction_in l.reaction) false l.meetings;
+  cached : AreFillings (reaction_in l.reaction) false l.fillings;
 }

@@ -7,7 +7,7 @@ use Rattle.om_graph.specs.Search.{walk}
 use Rattle.om_graph.specs.SetSearch.{sets_of_size, set_search}
 use Rattle.om_graph.specs.SetWalk.{CanWalk, HasWalked}
 use Rattle.om_graph.specs.Vertices.{fusion}
-use Rattle.om_graph.proofs.KeptMeetings.{none_kept}
+use Rattle.om_graph.proofs.KeptFillings.{none_filled}
 use Rattle.om_graph.proofs.WalkSteps.{all_in_range, can_next, large_in_range, more_in_range, none_in_range}
 use Rattle.om_graph.proofs.walk.add_sets.Goals as goal
 
@@ -17,7 +17,7 @@ loop-legs-init c =
     record {
       walked = none_in_range r c.args.nodes.now c.args.terms.now (sets_of_size (reaction_in c.args.reaction.now).scattering.size) 2 (c.size.result / 2 + 1) (subst (CanWalk r c.args.nodes.now c.args.terms.now) (all_in_range (reaction_in c.args.reaction.now).scattering.size c.size.result c.size.ensures.size) c.requires);
       from = omega arith;
-      cached = none_kept (reaction_in c.args.reaction.now) false c.new-meetings.result c.new-meetings.ensures.kind c.new-meetings.ensures.none;
+      cached = none_filled (reaction_in c.args.reaction.now) false c.new-fillings.result c.new-fillings.ensures.kind c.new-fillings.ensures.none c.new-fillings.ensures.no_last;
     }
 
 pub add_sets_of-requires-clause-can : goal.add_sets_of-requires-clause-can

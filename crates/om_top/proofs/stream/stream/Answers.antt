@@ -131,17 +131,17 @@ loop-number-preserved g c =
     let ok = c.in_default-write_answer.ensures in
     record {
       reading = reading_now o (g.R.Ring.text c.args.ring.now) c.args.machine.now c.code.ensures.verified c.requires.loaded l.machine l.reader l.number l.event l.invariant.reading
-    (left c.args.input.now) (left l.input) (left n.new.input) (written c.args.out.now) (written l.out) l.invariant.progress e.gives.0 e.gives.1 n.new.self.held n.new.event n.result e.gives.2
-    (is_event n.result (sym c.ending_of.ensures ∙ c.in_default.is)) (λ q. let t = c.loop-number-test.true in omega (arith, t, q)) e.made v.new.self v.ensures.code v.ensures.factors v.ensures.masses v.result v.ensures.answer (l.number + 1) refl
+          (left c.args.input.now) (left l.input) (left n.new.input) (written c.args.out.now) (written l.out) l.invariant.progress e.gives.0 e.gives.1 n.new.self.held n.new.event n.result e.gives.2
+          (is_event n.result (sym c.ending_of.ensures ∙ c.in_default.is)) (λ q. let t = c.loop-number-test.true in omega (arith, t, q)) e.made v.new.self v.ensures.code v.ensures.factors v.ensures.masses v.result v.ensures.answer (l.number + 1) refl
           n.new.self e.stays e.kinds;
       progress = stream_answered o (g.R.Ring.text c.args.ring.now) c.args.machine.now c.code.ensures.verified c.requires.loaded l.machine l.reader l.number l.event l.invariant.reading
-    (left c.args.input.now) (left l.input) (left n.new.input) (written c.args.out.now) (written l.out) l.invariant.progress e.gives.0 e.gives.1 n.new.self.held n.new.event n.result e.gives.2
-    (is_event n.result (sym c.ending_of.ensures ∙ c.in_default.is)) (λ q. let t = c.loop-number-test.true in omega (arith, t, q)) e.made v.new.self v.ensures.code v.ensures.factors v.ensures.masses v.result v.ensures.answer (l.number + 1) refl
+          (left c.args.input.now) (left l.input) (left n.new.input) (written c.args.out.now) (written l.out) l.invariant.progress e.gives.0 e.gives.1 n.new.self.held n.new.event n.result e.gives.2
+          (is_event n.result (sym c.ending_of.ensures ∙ c.in_default.is)) (λ q. let t = c.loop-number-test.true in omega (arith, t, q)) e.made v.new.self v.ensures.code v.ensures.factors v.ensures.masses v.result v.ensures.answer (l.number + 1) refl
           (written w.new.out) ok.ok;
       input_later = omega (arith, l.invariant.input_later, e.later);
       out_later = omega (arith, l.invariant.out_later, ok.cause.later);
       calls = answered_calls o (g.R.Ring.text c.args.ring.now) c.args.machine.now c.code.ensures.verified c.requires.loaded l.machine l.reader l.number l.event l.invariant.reading
-    (left c.args.input.now) (left l.input) (left n.new.input) (written c.args.out.now) (written l.out) l.invariant.progress e.gives.0 e.gives.1 n.new.self.held n.new.event n.result e.gives.2
-    (is_event n.result (sym c.ending_of.ensures ∙ c.in_default.is)) (λ q. let t = c.loop-number-test.true in omega (arith, t, q)) e.made v.new.self v.ensures.code v.ensures.factors v.ensures.masses v.result v.ensures.answer (l.number + 1) refl
+          (left c.args.input.now) (left l.input) (left n.new.input) (written c.args.out.now) (written l.out) l.invariant.progress e.gives.0 e.gives.1 n.new.self.held n.new.event n.result e.gives.2
+          (is_event n.result (sym c.ending_of.ensures ∙ c.in_default.is)) (λ q. let t = c.loop-number-test.true in omega (arith, t, q)) e.made v.new.self v.ensures.code v.ensures.factors v.ensures.masses v.result v.ensures.answer (l.number + 1) refl
           (g.R.Ring.cost c.args.ring.now) c.args.steps.now l.steps n.new.steps v.new.steps l.invariant.calls e.at_most v.ensures.at_most;
     }

@@ -1,22 +1,27 @@
-use Rattle.std.proofs.Common.{rules, ℕ, ◌+◌, ◌*◌, ◌<◌, ◌≤◌, length, ◌≡◌, ◌-◌, ◌/◌, ◌%◌, Bool, true, false, nat_eq, nat_lt, List, [], ◌∷◌, ◌++◌, slice_index_or, slice_set, bit_and, bit_or, Fits, w8, w32, w64, Bor, MutBor}
-use Rattle.om_top.specs.CompileRan.{CompileRan}
-use Rattle.om_top.specs.Cost.{FileMayCall}
-use Rattle.om_top.specs.Outside.{file_side, side}
-use Rattle.om_top.specs.declared.words.TheConstants.{WORD_LIMIT}
+use Rattle.std.proofs.Common.{subst, sym}
+use Rattle.om_code.specs.Plain.{IsPlain}
+use Rattle.om_code.specs.declared.code.Code.{Code}
+use Rattle.om_emit.specs.GraphCode.{IsCodeOf}
+use Rattle.om_top.proofs.Files.{formed}
 use Rattle.om_top.proofs.commands.compile.compile.Goals as goal
 
--- src/commands/compile.rt:34:22
 pub emit-requires-clause-accepted : goal.emit-requires-clause-accepted
-emit-requires-clause-accepted g c = ?
+emit-requires-clause-accepted g c = formed (g.R.Ring.ops c.args.ring.now) c.in-Ok.named.model c.in-Ok.ensures.named.model.2.says.1
 
--- src/commands/compile.rt:38:11
 pub write_code-requires : goal.write_code-requires
-write_code-requires g c = ?
+write_code-requires g c = subst (λ (x : Code). IsPlain x) (sym c.code-2.ensures.code) c.code-2.ensures.verified.plain
 
--- src/commands/compile.rt:29:1
 pub returns-in-Ok-write_code-clause-ran : goal.returns-in-Ok-write_code-clause-ran
-returns-in-Ok-write_code-clause-ran g c = ?
+returns-in-Ok-write_code-clause-ran g c =
+    let named = c.in-Ok.ensures.named in
+    let x = c.in-Ok.named in
+    let is_code = subst (λ (code : Code). IsCodeOf x.model x.process x.graph code) (sym c.code-2.ensures.code) c.in-Ok-emit.ensures.code in
+    (x.model, named.model, (x.process, named.process, (x.graph, named.graph, (c.code-2.result.now, is_code, c.in-Ok-write_code.ensures.ok))))
 
--- src/commands/compile.rt:17:1
 pub returns-clause-ran : goal.returns-clause-ran
-returns-clause-ran g c = ?
+returns-clause-ran g c =
+    let named = c.in-Ok.ensures.named in
+    let x = c.in-Ok.named in
+    let is_code = subst (λ (code : Code). IsCodeOf x.model x.process x.graph code) (sym c.code-2.ensures.code) c.in-Ok-emit.ensures.code in
+    let wrote = c.in-Err-write_code.ensures in
+    (x.model, named.model, (x.process, named.process, (x.graph, named.graph, (c.code-2.result.now, is_code, (wrote.cause.failed, wrote.err)))))
