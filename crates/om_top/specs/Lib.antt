@@ -17,3 +17,4 @@ pub mod SampleRan
 pub mod Ran
 pub mod Cost
 pub mod Causes
+pub mod Agree
