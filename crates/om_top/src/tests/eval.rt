@@ -1,6 +1,6 @@
 //! `eval`: answers, and processes without any.
 use super::case::{Case, FOUR, check_case};
-use super::models::{CS, MASSIVE, PHI3M, PHI34, QCD, QED, SZ, YUK};
+use super::models::{CS, PHI3M, PHI34, QCD, QED, SZ, YUK};
 use std::test::Fail;
 
 /// One particle to two.
