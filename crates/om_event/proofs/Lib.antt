@@ -7,3 +7,4 @@ pub mod EventFronts
 pub mod LinePieces
 pub mod KindsOfCode
 pub mod FrontsStay
+pub mod EventKinds

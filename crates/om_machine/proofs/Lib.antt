@@ -2,6 +2,7 @@ pub mod WaveForms
 pub mod StepLoop
 pub mod DecodedSame
 pub mod MomentumSums
+pub mod Inverting
 pub mod Answering
 pub mod Lengths
 pub mod Each

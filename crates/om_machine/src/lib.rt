@@ -9,6 +9,7 @@ mod decoding;
 mod edges;
 mod event;
 mod filling;
+mod inverses;
 pub mod laws;
 mod loading;
 mod machine;

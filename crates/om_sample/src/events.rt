@@ -2,14 +2,13 @@
 ghost use Rattle.std.specs.Prelude.{◌≡◌, ◌≤◌, ◌+◌, ◌*◌, ◌-◌, ℕ};
 ghost use Rattle.om_kernel.specs.declared.waves.Wave.TheVariants.{Scalar as a_scalar};
 ghost use Rattle.om_code.specs.Waves.{minus_four, zero_four};
-ghost use Rattle.om_kernel.specs.Components.{plus_four};
 ghost use Rattle.om_code.specs.declared.code.Code.{Code};
 ghost use Rattle.om_machine.specs.Events.{IsMadeFor};
 ghost use Rattle.om_sample.specs.Generator.{state_after};
 ghost use Rattle.om_sample.specs.Events.{IsOfScalars, draws_of_event, drawn, drawn_event, drawn_momentum};
 
 use crate::generator::Generator;
-use om_kernel::Wave;
+use om_kernel::{Wave, plus_four};
 use om_lorentz::Four;
 use om_machine::Event;
 use om_ring::{Ring, Steps};
@@ -22,23 +21,6 @@ fn zero_four<R: Ring>(ring: &R) -> Four<R::E>
         x: ring.zero(),
         y: ring.zero(),
         z: ring.zero(),
-    }
-}
-
-fn plus_four<R: Ring<Mark = L>, L>(
-    ring: &R,
-    p: Four<R::E>,
-    q: Four<R::E>,
-    steps: &mut Steps<L>,
-) -> Four<R::E>
-    ensures value { result ≡ plus_four (R.ops ring.now) p q }
-    ensures at_most { steps.new ≤ steps.old + 4 * R.cost ring.now }
-{
-    Four {
-        t: ring.add(p.t, q.t, steps),
-        x: ring.add(p.x, q.x, steps),
-        y: ring.add(p.y, q.y, steps),
-        z: ring.add(p.z, q.z, steps),
     }
 }
 
@@ -95,7 +77,7 @@ pub fn draw_event<R: Ring<Mark = L>, L>(
     let mut sum = zero_four(ring);
     for leg in 1..legs {
         let momentum = draw_momentum(ring, generator);
-        sum = plus_four(ring, sum, momentum, steps);
+        sum = plus_four(ring, &sum, &momentum, steps);
         let wave = draw_wave(ring, generator);
         event.set(leg, momentum, wave);
     }

@@ -1,3 +1,11 @@
+pub mod GraphSizes
+pub mod AgreeStreams
+pub mod AgreeAccepted
+pub mod TextLengths
+pub mod InstrLengths
+pub mod TextLength
+pub mod AgreeLength
+pub mod AgreeFiles
 pub mod Short
 pub mod Sampled
 pub mod Files

@@ -18,3 +18,4 @@ pub mod Ran
 pub mod Cost
 pub mod Causes
 pub mod Complete
+pub mod Agree

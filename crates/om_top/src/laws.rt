@@ -1,4 +1,6 @@
 //! Laws of the definitions that the contract of [`run`](crate::run) rests on.
+ghost use Rattle.std.specs.Prelude.{ℕ, List};
+ghost use Rattle.om_top.specs.Agree.{CompiledTextsArePrograms, RunOnTextsIsEval, RunOwesWhatEvalOwes};
 ghost use Rattle.om_top.specs.Causes.{UsageCause, ModelCause, ProcessCause, SizeCause, ProgramCause, EventsCause, ProgramEventsCause, FaultsHaveCauses, QuietEndings, CommandEndings};
 ghost use Rattle.om_top.specs.Complete.{EvalIsComplete, RunIsComplete, CheckIsComplete, CompileIsComplete, GraphIsComplete, SampleIsComplete};
 
@@ -78,6 +80,18 @@ pub fn commands_complete<R: Ring>(ring: &R)
     ensures compile { CompileIsComplete (R.ops ring.now) (R.text ring.now) }
     ensures graph { GraphIsComplete (R.ops ring.now) (R.text ring.now) }
     ensures sample { SampleIsComplete (R.ops ring.now) (R.text ring.now) }
+{
+    let _ring = ring;
+}
+
+/// The text that `compile` writes for a process over an accepted model is a program file: it has no
+/// more bytes than such a file may have, and is read as the code that was written, which keeps all
+/// rules. For each input `run` owes on it what `eval` owes on the model and the process. On a file
+/// that holds it `run` leaves what `eval` leaves, unless the file can't be read or memory runs out.
+pub fn compile_and_run_agree<R: Ring>(ring: &R)
+    ensures program { CompiledTextsArePrograms (R.ops ring.now) }
+    ensures owed { (show : R.E → List ℕ) → RunOwesWhatEvalOwes (R.ops ring.now) show }
+    ensures run { (show : R.E → List ℕ) → RunOnTextsIsEval (R.ops ring.now) show }
 {
     let _ring = ring;
 }

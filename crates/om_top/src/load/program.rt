@@ -1,8 +1,7 @@
 //! The program of a file.
-ghost use Rattle.std.specs.Prelude.{◌≡◌, ◌+◌, ◌*◌, ◌<◌, ◌≤◌, ◌^◌, ℕ, length, IfOk};
+ghost use Rattle.std.specs.Prelude.{◌+◌, ◌*◌, ◌≤◌, ℕ, length, IfOk};
 ghost use Rattle.om_top.specs.Cost.{ProgramMayCall, program_calls};
-ghost use Rattle.om_top.specs.Loads.{LoadsProgram, ReadsCode, ReadsProgram};
-ghost use Rattle.om_top.specs.Loads.{IsLoaded};
+ghost use Rattle.om_top.specs.Loads.{IsLoaded, LoadsProgram, ReadsCode, ReadsProgram};
 ghost use Rattle.om_top.specs.Outside.{file_side};
 ghost use Rattle.om_top.specs.declared.load.program.TheConstants.{MOST_PROGRAM_BYTES};
 

@@ -169,7 +169,7 @@ fn bytes_of(alloc: Global, changed: &Changed) -> Result<Vec<u8>, Fail> {
         if k + 1 == first {
             bytes.extend_from_slice(text.as_bytes())?;
         }
-        if k + 1 < first || first + lines <= k + 1 {
+        if k + 1 < first || lines <= k + 1 - first {
             bytes.extend_from_slice(line.as_bytes())?;
         }
     }
