@@ -44,7 +44,7 @@ def check(page, omega):
         for number, command, expected in commands(page.read_text()):
             run = subprocess.run(
                 ["bash", "-c", command], cwd=folder, env={**os.environ, "PATH": paths},
-                stdin=subprocess.DEVNULL, stdout=subprocess.PIPE, stderr=subprocess.STDOUT, text=True,
+                stdin=subprocess.DEVNULL, stdout=subprocess.PIPE, stderr=subprocess.STDOUT, text=True, timeout=120,
             )
             if run.stdout != expected:
                 wrong += 1
