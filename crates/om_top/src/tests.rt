@@ -1,6 +1,7 @@
 //! Whole runs over objects in memory.
 
 mod case;
+mod calls;
 mod check;
 mod compile;
 mod eval;

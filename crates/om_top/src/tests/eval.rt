@@ -12,7 +12,7 @@ const THREE: Case = Case {
 };
 
 /// Two massive particles to eight, at rest.
-const TEN: Case = Case {
+pub(crate) const TEN: Case = Case {
     words: &[
         "eval",
         "model.toml",
@@ -25,7 +25,7 @@ const TEN: Case = Case {
 };
 
 /// Two currents of spinors.
-const CURRENTS: Case = Case {
+pub(crate) const CURRENTS: Case = Case {
     words: &["eval", "model.toml", "e- e+ -> mu- mu+"],
     file: Some(QED),
     input: "1 1 0 0 0 0 0 1 0\n2 1 0 0 0 1 0 0 0\n3 1 0 0 0 0 1 0 0\n4 -3 0 0 0 0 0 0 1\n",
@@ -70,7 +70,6 @@ const CASES: &[Case] = &[
         out: "1 1>2,4>3 6148961602300979883\n1 1>3,4>2 18446603331926228993\n",
         ..CURRENTS
     },
-    TEN,
     Case {
         words: &["eval", "model.toml", "g -> g g"],
         file: Some(QCD),
@@ -115,6 +114,18 @@ const CASES: &[Case] = &[
         out: "1 - 18446673700670406657\n",
         ..FOUR
     },
+];
+
+#[test]
+fn eval(rt: HostRuntime) -> Result<(), Fail> {
+    for case in CASES {
+        check_case(&rt, rt.alloc(), case)?;
+    }
+    Ok(())
+}
+
+const LARGE: &[Case] = &[
+    TEN,
     Case {
         words: &[
             "eval",
@@ -147,8 +158,8 @@ const CASES: &[Case] = &[
 ];
 
 #[test]
-fn eval(rt: HostRuntime) -> Result<(), Fail> {
-    for case in CASES {
+fn large_processes(rt: HostRuntime) -> Result<(), Fail> {
+    for case in LARGE {
         check_case(&rt, rt.alloc(), case)?;
     }
     Ok(())
