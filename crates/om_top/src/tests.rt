@@ -1,7 +1,7 @@
 //! Whole runs over objects in memory.
 
-mod case;
 mod calls;
+mod case;
 mod check;
 mod compile;
 mod eval;
