@@ -1,7 +1,6 @@
 //! Whole runs over objects in memory.
 
 mod case;
-mod calls;
 mod check;
 mod compile;
 mod eval;
