@@ -1,9 +1,5 @@
 //! Whole runs over objects in memory.
 
-<<<<<<< HEAD
-mod calls;
-=======
->>>>>>> 060b1be334f9e09770afe3cb31893818d2d637a3
 mod case;
 mod check;
 mod compile;
