@@ -1,5 +1,5 @@
 -- What a run leaves with a told file, where nothing is refused before.
-use Rattle.std.proofs.Common.{◌≡◌, ◌≢◌, ℕ, ◌≤◌, ◌<◌, List, length, Option, Some, None, IfSome, Ok, Err, refl, ap, sym, ◌∙◌, subst, arith, inl, inr}
+use Rattle.std.proofs.Common.{◌≡◌, ℕ, ◌<◌, List, length, Option, Some, None, IfSome, refl, sym, ◌∙◌, subst, arith, inl, inr}
 use Rattle.std.specs.Prelude.{◌⊎◌}
 use Rattle.om_ring.specs.Ops.{Ops}
 use Rattle.om_model.specs.declared.model.Model.{Model}
@@ -7,13 +7,12 @@ use Rattle.om_model.specs.declared.process.Process.{Process}
 use Rattle.om_graph.specs.declared.Graph.{Graph}
 use Rattle.om_graph.specs.Reactions.{reaction_of}
 use Rattle.om_graph.proofs.OnePossible.{one_possible}
-use Rattle.om_asm.specs.Program.{program_of}
 use Rattle.om_code.specs.declared.code.Code.{Code}
 use Rattle.om_code.specs.Verified.{IsVerified}
 use Rattle.om_machine.specs.Machines.{LacksInverse}
 use Rattle.om_code.proofs.VerifiedFacts.{verified-breaks-none}
-use Rattle.om_top.specs.Loads.{HasMore, HoldsModel, HoldsProgram, IsGraphOf, IsModelFile, IsProgramFile, IsTooLarge, SaysProcess, SaysProgram, SaysProgramFault}
-use Rattle.om_top.specs.Outside.{Side, Failed, Holds}
+use Rattle.om_top.specs.Loads.{HoldsModel, HoldsProgram, IsGraphOf, IsModelFile, IsProgramFile, IsTooLarge, SaysProcess, SaysProgram, SaysProgramFault}
+use Rattle.om_top.specs.Outside.{Side, Failed}
 use Rattle.om_top.specs.Refusals.{WithModel, WithProcess, WithGraph, WithProgram}
 use Rattle.om_top.specs.declared.faults.program.ProgramFault.{ProgramFault}
 use Rattle.om_top.specs.declared.faults.program.ProgramFault.TheVariants.{Text, Rule, NoInverse}

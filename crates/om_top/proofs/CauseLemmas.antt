@@ -1,6 +1,6 @@
 -- When each refusal and each fault comes, by cases on how a run ended.
-use Rattle.std.proofs.Common.{◌≡◌, ◌≢◌, ℕ, ◌≤◌, Bool, true, false, List, [], ◌∷◌, length, Option, Some, None, refl, ap, sym, subst, arith, inl, inr}
-use Rattle.std.specs.Prelude.{◌↔◌, ◌⊎◌}
+use Rattle.std.proofs.Common.{◌≡◌, ◌≢◌, ℕ, true, false, List, Some, None, refl, subst, arith, inl, inr}
+use Rattle.std.specs.Prelude.{◌↔◌}
 use Rattle.om_ring.specs.Ops.{Ops}
 use Rattle.om_model.specs.declared.model.Model.{Model}
 use Rattle.om_model.specs.declared.process.Process.{Process}
@@ -13,10 +13,10 @@ use Rattle.om_top.specs.CheckRan.{check_text}
 use Rattle.om_top.specs.EvalRan.{Evaluates}
 use Rattle.om_top.specs.SampleRan.{SampleRan}
 use Rattle.om_top.specs.Causes.{ModelCause, ProcessCause, QuietEndings, SizeCause, ProgramCause, RefusesModel, RefusesProcess, RefusesProgram, is_quiet}
-use Rattle.om_top.specs.Command.{Command, check, eval, compile, run, graph, sample}
-use Rattle.om_top.specs.Loads.{HoldsModel, HoldsProgram, IsModelFile, IsProgramFile, IsTooLarge, SaysFault, SaysProcess, SaysProgramFault}
+use Rattle.om_top.specs.Command.{check, eval, compile, run, graph, sample}
+use Rattle.om_top.specs.Loads.{HoldsModel, HoldsProgram, IsModelFile, IsProgramFile, IsTooLarge, SaysFault, SaysProgramFault}
 use Rattle.om_top.specs.Message.{status_of}
-use Rattle.om_top.specs.Outside.{Outside, Side, Failed, IsUntouched, Writes}
+use Rattle.om_top.specs.Outside.{Side, Failed, IsUntouched, Writes}
 use Rattle.om_top.specs.Refusals.{WithModel, WithProcess, WithGraph, WithProgram}
 use Rattle.om_top.specs.RunRan.{OwesMeaning, RunsCode}
 use Rattle.om_top.specs.Streamed.{Streamed, kinds_of}
@@ -25,7 +25,7 @@ use Rattle.om_top.specs.declared.ending.Ending.TheVariants.{Done, OutFault, Usag
 use Rattle.om_top.specs.declared.load.model.TheConstants.{MOST_MODEL_BYTES}
 use Rattle.om_top.specs.declared.load.program.TheConstants.{MOST_PROGRAM_BYTES}
 use Rattle.om_top.proofs.Accepted.{holds_file, holds_text, never_large, no_program_fault, told_file, told_long, with_model, with_process}
-use Rattle.om_top.proofs.Endings.{GoesByGraph, GoesByModel, by_graph, by_model, not_five, not_four, not_nine, other_own, own_evaluates, own_streamed, own_unless, own_writes}
+use Rattle.om_top.proofs.Endings.{by_graph, by_model, not_five, not_four, not_nine, other_own, own_evaluates, own_streamed, own_unless, own_writes}
 use Rattle.om_top.proofs.Files.{no_fault}
 
 -- the status is another one

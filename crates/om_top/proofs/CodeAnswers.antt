@@ -1,17 +1,14 @@
 -- What a machine answers for an event that was read.
-use Rattle.std.proofs.Common.{◌≡◌, ◌≢◌, ℕ, ◌+◌, ◌*◌, ◌≤◌, List, [], ◌∷◌, ◌++◌, length, map, refl, ap, ap₂, sym, subst, ◌∙◌, true, arith}
+use Rattle.std.proofs.Common.{◌≡◌, ◌≢◌, ℕ, ◌+◌, ◌*◌, ◌≤◌, List, [], ◌∷◌, length, map, refl, ap, ap₂, sym, subst, ◌∙◌, true, arith}
 use Rattle.std.proofs.Math.Nat.{mul-le-mul_right}
 use Rattle.std.proofs.lemmas.List.{length-map}
 use Rattle.om_ring.specs.Ops.{Ops}
-use Rattle.om_kernel.specs.Waves.{Kind}
-use Rattle.om_model.specs.Answer.{Answer}
 use Rattle.om_model.specs.ModelTable.{model_table}
 use Rattle.om_model.specs.declared.model.Particle.{Particle}
 use Rattle.om_code.specs.declared.code.Code.{Code}
 use Rattle.om_code.specs.Meaning.{IsMeaning}
 use Rattle.om_code.specs.Waves.{Incoming}
 use Rattle.om_emit.specs.EmittedAnswer.{answer_with}
-use Rattle.om_machine.specs.Bound.{part}
 use Rattle.om_machine.specs.Events.{IsMadeFor, kind_of_field}
 use Rattle.om_machine.specs.Laws.{SameTableSameMeaning}
 use Rattle.om_machine.specs.Loaded.{answer_of}

@@ -8,11 +8,10 @@ use Rattle.om_model.specs.Model.{scattering_of}
 use Rattle.om_model.specs.Tree.{Tree}
 use Rattle.om_model.specs.declared.model.Model.{Model}
 use Rattle.om_model.specs.declared.process.Process.{Process}
-use Rattle.om_colour.specs.declared.Flow.{Flow}
 use Rattle.om_graph.specs.declared.Graph.{Graph}
 use Rattle.om_code.specs.declared.code.Code.{Code}
 use Rattle.om_emit.specs.GraphCode.{IsCodeOf}
-use Rattle.om_event.specs.Events.{Events, Legs, Ending as Ended, at_end, bad, too_many, events_of}
+use Rattle.om_event.specs.Events.{Events, Legs, at_end, events_of}
 use Rattle.om_event.specs.declared.kind.WaveKind.{WaveKind}
 use Rattle.om_program_text.specs.ProgramText.{program_text}
 use Rattle.om_top.specs.AnswerText.{no_amplitude}

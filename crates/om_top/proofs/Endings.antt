@@ -1,5 +1,5 @@
 -- The forms that what a command leaves has, and the endings that come with each.
-use Rattle.std.proofs.Common.{◌≡◌, ◌≢◌, ℕ, Bool, true, false, List, [], ◌∷◌, ◌++◌, Option, Some, None, refl, ap, sym, subst, arith, inl, inr}
+use Rattle.std.proofs.Common.{◌≡◌, ◌≢◌, ℕ, false, List, [], ◌∷◌, Some, refl, arith, inl, inr}
 use Rattle.om_ring.specs.Ops.{Ops}
 use Rattle.om_ring.specs.Members.{In}
 use Rattle.om_model.specs.declared.model.Model.{Model}
@@ -19,10 +19,9 @@ use Rattle.om_top.specs.Message.{status_of}
 use Rattle.om_top.specs.Outside.{Outside, Side, IsUntouched, Writes}
 use Rattle.om_top.specs.Ran.{Ran}
 use Rattle.om_top.specs.Refusals.{WithModel, WithProcess, WithGraph}
-use Rattle.om_top.specs.RunRan.{RunsCode}
 use Rattle.om_top.specs.Streamed.{HasNoAmplitude, Streamed, UnlessNone}
 use Rattle.om_top.specs.declared.ending.Ending.{Ending}
-use Rattle.om_top.specs.declared.ending.Ending.TheVariants.{Done, Usage, ModelTooLong, ModelFault, ProcessFault, GraphTooLarge, ProgramTooLong, ProgramFault, EventFault, FileFault, InputFault, OutFault, NoMemory}
+use Rattle.om_top.specs.declared.ending.Ending.TheVariants.{Done, ProcessFault, GraphTooLarge, EventFault, InputFault, OutFault}
 
 -- the statuses of the endings that aren't quiet
 pub own_status : (e : Ending) → is_quiet e ≡ false → In (status_of e) (0 ∷ 6 ∷ 7 ∷ 8 ∷ [])

@@ -1,8 +1,7 @@
 -- What `eval` leaves, by the code of the graph.
-use Rattle.std.proofs.Common.{◌≡◌, ℕ, ◌+◌, ◌*◌, ◌≤◌, ◌↔◌, List, [], ◌∷◌, ◌++◌, map, refl, ap, sym, subst, ◌∙◌, arith, inr}
+use Rattle.std.proofs.Common.{◌≡◌, ℕ, ◌+◌, ◌↔◌, List, [], ◌∷◌, refl, ap, sym, subst, ◌∙◌}
 use Rattle.om_ring.specs.Ops.{Ops}
 use Rattle.om_colour.specs.declared.Flow.{Flow}
-use Rattle.om_model.specs.Answer.{Answer}
 use Rattle.om_model.specs.Diagrams.{AreDiagrams}
 use Rattle.om_model.specs.Model.{scattering_of}
 use Rattle.om_model.specs.ModelTable.{model_table}
@@ -22,7 +21,7 @@ use Rattle.om_event.specs.Events.{Legs, events_of}
 use Rattle.om_event.specs.Next.{incoming_of}
 use Rattle.om_event.specs.declared.kind.WaveKind.{WaveKind}
 use Rattle.om_top.specs.AnswerText.{answer_text}
-use Rattle.om_top.specs.EvalRan.{EvalRan, Evaluates, OwesAnswer, process_kinds}
+use Rattle.om_top.specs.EvalRan.{Evaluates, OwesAnswer, process_kinds}
 use Rattle.om_top.specs.Outside.{Side, IsUntouched}
 use Rattle.om_top.specs.RunRan.{OwesMeaning, RunsCode, RunsOrNot}
 use Rattle.om_top.specs.Streamed.{HasNoAmplitude, Lines, Streamed, UnlessNone, kinds_of}

@@ -1,5 +1,5 @@
 -- What the bytes of a file say.
-use Rattle.std.proofs.Common.{◌≡◌, ℕ, ◌+◌, ◌≤◌, ◌<◌, List, length, Ok, Err, refl, subst, arith, inl, inr}
+use Rattle.std.proofs.Common.{◌≡◌, ℕ, ◌+◌, ◌≤◌, ◌<◌, List, length, Ok, refl, subst, arith, inl, inr}
 use Rattle.om_ring.specs.Ops.{Ops}
 use Rattle.om_model.specs.WellFormed.{IsWellFormed}
 use Rattle.om_model.specs.declared.limits.TheConstants.{MOST_PARTICLES}

@@ -1,28 +1,23 @@
 -- Faults of the outside, and the statuses of the commands.
-use Rattle.std.proofs.Common.{◌≡◌, ◌≢◌, ℕ, Bool, true, false, List, [], ◌∷◌, Option, Some, None, refl, ap, sym, subst, inl, inr}
+use Rattle.std.proofs.Common.{◌≡◌, ◌≢◌, ℕ, List, [], ◌∷◌, Some, refl, subst, inl}
 use Rattle.om_ring.specs.Ops.{Ops}
-use Rattle.om_ring.specs.Members.{In}
-use Rattle.om_model.specs.Diagrams.{AreDiagrams}
 use Rattle.om_model.specs.Model.{scattering_of}
-use Rattle.om_model.specs.Tree.{Tree}
 use Rattle.om_model.specs.declared.model.Model.{Model}
 use Rattle.om_model.specs.declared.process.Process.{Process}
 use Rattle.om_colour.specs.declared.Flow.{Flow}
-use Rattle.om_code.specs.declared.code.Code.{Code}
 use Rattle.om_top.specs.Causes.{FaultCauses, FaultsHaveCauses, HasDiagram}
-use Rattle.om_top.specs.Command.{Command, check, eval, compile, run, graph, sample}
+use Rattle.om_top.specs.Command.{check, eval, compile, run, graph, sample}
 use Rattle.om_top.specs.CheckRan.{CheckRan}
 use Rattle.om_top.specs.CompileRan.{CompileRan}
 use Rattle.om_top.specs.EvalRan.{EvalRan, Evaluates}
 use Rattle.om_top.specs.GraphRan.{GraphRan}
 use Rattle.om_top.specs.SampleRan.{SampleRan}
-use Rattle.om_top.specs.Message.{status_of}
 use Rattle.om_top.specs.Outside.{Outside, Side, Failed}
 use Rattle.om_top.specs.Ran.{Ran}
 use Rattle.om_top.specs.RunRan.{OwesMeaning, RunRan}
 use Rattle.om_top.specs.Streamed.{Streamed, UnlessNone, kinds_of}
 use Rattle.om_top.specs.declared.ending.Ending.{Ending}
-use Rattle.om_top.specs.declared.ending.Ending.TheVariants.{Done, Usage, ModelTooLong, ModelFault, ProcessFault, GraphTooLarge, ProgramTooLong, ProgramFault, EventFault, FileFault, InputFault, OutFault, NoMemory}
+use Rattle.om_top.specs.declared.ending.Ending.TheVariants.{FileFault, InputFault, OutFault}
 
 module _ {E : Type 0} (o : Ops E) (show : E → List ℕ) where
   -- the input failed where there was a diagram

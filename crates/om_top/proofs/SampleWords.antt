@@ -1,5 +1,5 @@
 -- The words of a sample say 3 to 12 legs.
-use Rattle.std.proofs.Common.{◌≡◌, ℕ, ◌+◌, ◌<◌, ◌≤◌, Bool, true, false, List, [], ◌∷◌, refl, ap, arith, subst}
+use Rattle.std.proofs.Common.{◌≡◌, ℕ, ◌+◌, ◌≤◌, Bool, true, false, List, [], ◌∷◌, refl, ap, arith, subst}
 use Rattle.std.specs.Prelude.{Option, Some, None, ◌^◌, codes, if◌then◌else◌, nat_le, decimal}
 use Rattle.std.proofs.lemmas.Bool.{leb-true}
 use Rattle.std.specs.Str.{bytes_eq}

@@ -1,29 +1,19 @@
 -- The code of the process of a sample gives what the diagrams give.
-use Rattle.std.proofs.Common.{◌≡◌, ℕ, ◌+◌, ◌*◌, ◌<◌, ◌≤◌, ◌^◌, List, [], ◌∷◌, length, map, Option, Some, None, refl, ap, sym, ◌∙◌, arith, subst}
+use Rattle.std.proofs.Common.{◌≡◌, ℕ, ◌+◌, ◌*◌, ◌≤◌, List, [], ◌∷◌, length, Option, Some, None, refl, ap, sym, ◌∙◌, arith, subst}
 use Rattle.std.proofs.Math.Nat.{mul-le-mul_right}
 use Rattle.om_ring.specs.Ops.{Ops, Laws}
 use Rattle.om_ring.specs.Sums.{sum_list, sum_over}
 use Rattle.om_colour.specs.declared.Flow.{Flow}
-use Rattle.om_model.specs.Diagrams.{AreDiagrams}
 use Rattle.om_model.proofs.AcceptedModels.{accepted_are_well_formed}
 use Rattle.om_model.proofs.AllDiagrams.{diagrams, diagrams_are}
 use Rattle.std.proofs.lemmas.List.{length-map}
 use Rattle.om_model.specs.Model.{scattering_of}
 use Rattle.om_model.specs.ModelTable.{model_table}
-use Rattle.om_model.specs.ProcessOf.{IsProcessOf}
-use Rattle.om_model.specs.Tree.{Tree}
 use Rattle.om_model.specs.WellFormed.{IsWellFormed}
-use Rattle.om_model.specs.declared.model.Model.{Model}
-use Rattle.om_model.specs.declared.process.Leg.{Leg}
-use Rattle.om_model.specs.declared.process.Process.{Process}
 use Rattle.om_model.specs.FeynmanRules.{Table}
 use Rattle.om_legs.specs.declared.leg_set.TheConstants.{MOST_LEGS}
 use Rattle.om_model.specs.declared.limits.TheConstants.{FEWEST_LEGS}
-use Rattle.om_graph.specs.Reactions.{reaction_of}
-use Rattle.om_graph.specs.declared.Graph.{Graph}
-use Rattle.om_keystone.specs.CanonicalGraph.{IsCanonicalOf}
-use Rattle.om_code.specs.Meaning.{IsMeaning, edge_of_den}
-use Rattle.om_code.specs.Meaning.MachineAnswer.{pole, values}
+use Rattle.om_code.specs.Meaning.{edge_of_den}
 use Rattle.om_code.specs.Waves.{Incoming}
 use Rattle.om_code.specs.declared.code.Code.{Code}
 use Rattle.om_machine.specs.Events.{IsMadeFor}

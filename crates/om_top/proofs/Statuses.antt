@@ -1,5 +1,5 @@
 -- The statuses with which the commands end.
-use Rattle.std.proofs.Common.{◌≡◌, ℕ, Bool, true, false, List, [], ◌∷◌, Option, Some, None, refl, inl, inr}
+use Rattle.std.proofs.Common.{◌≡◌, ℕ, false, List, [], ◌∷◌, refl, inl, inr}
 use Rattle.om_ring.specs.Ops.{Ops}
 use Rattle.om_ring.specs.Members.{In}
 use Rattle.om_model.specs.declared.model.Model.{Model}
@@ -9,12 +9,12 @@ use Rattle.om_code.specs.declared.code.Code.{Code}
 use Rattle.om_emit.specs.GraphCode.{IsCodeOf}
 use Rattle.om_listing.specs.Listing.{listing}
 use Rattle.om_program_text.specs.ProgramText.{program_text}
-use Rattle.om_top.specs.Causes.{CommandEndings, is_quiet, statuses_of}
+use Rattle.om_top.specs.Causes.{CommandEndings, is_quiet}
 use Rattle.om_top.specs.CheckRan.{check_text}
-use Rattle.om_top.specs.Command.{Command, check, eval, compile, run, graph, sample}
+use Rattle.om_top.specs.Command.{check, eval, compile, run, graph, sample}
 use Rattle.om_top.specs.EvalRan.{Evaluates}
 use Rattle.om_top.specs.Message.{status_of}
-use Rattle.om_top.specs.Outside.{Outside, Side, IsUntouched, Writes}
+use Rattle.om_top.specs.Outside.{Side, IsUntouched, Writes}
 use Rattle.om_top.specs.Refusals.{WithModel, WithProcess, WithGraph, WithProgram}
 use Rattle.om_top.specs.RunRan.{RunsCode}
 use Rattle.om_top.specs.SampleRan.{SampleRan}

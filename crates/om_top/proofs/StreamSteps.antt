@@ -1,5 +1,5 @@
 -- The steps of a stream: an event that is answered, and the end.
-use Rattle.std.proofs.Common.{◌≡◌, ◌≢◌, ℕ, ◌+◌, ◌*◌, ◌<◌, ◌≤◌, ◌==◌, nat_eq, Bool, true, false, List, [], ◌∷◌, ◌++◌, length, map, Option, Some, None, refl, ap, sym, subst, ◌∙◌, arith, inl, inr}
+use Rattle.std.proofs.Common.{◌≡◌, ◌≢◌, ℕ, ◌+◌, ◌*◌, ◌≤◌, nat_eq, true, List, [], ◌++◌, length, Option, Some, None, refl, ap, sym, subst, ◌∙◌, arith, inl, inr}
 use Rattle.std.specs.Prelude.{MatchBool}
 use Rattle.std.proofs.lemmas.Bool.{ne_eqb}
 use Rattle.om_ring.specs.Ops.{Ops}
@@ -7,7 +7,6 @@ use Rattle.om_io.specs.Bytes.{after_told, before_told, AppendsPrefix}
 use Rattle.om_io.specs.Causes.{Rose}
 use Rattle.om_io.proofs.Counts.{Rose-longer}
 use Rattle.om_model.specs.ModelTable.{model_table}
-use Rattle.om_model.specs.FeynmanRules.{Table}
 use Rattle.om_code.specs.declared.code.Code.{Code}
 use Rattle.om_code.specs.Meaning.{IsMeaning}
 use Rattle.om_code.specs.Verified.{IsVerified}
@@ -40,7 +39,7 @@ use Rattle.om_top.specs.Streamed.{Streamed, ending_of, kinds_of}
 use Rattle.om_top.specs.declared.ending.Ending.{Ending}
 use Rattle.om_top.specs.declared.ending.Ending.TheVariants.{OutFault}
 use Rattle.om_top.proofs.CodeAnswers.{IsReading, calls_answered, calls_begun, calls_none, count_kinds, kinds_are, more_calls, owed, some_kinds}
-use Rattle.om_top.proofs.Streams.{Progress, answered_one, begun_now, broken_one, ended, gave_all, given, one_more, starts}
+use Rattle.om_top.proofs.Streams.{Progress, answered_one, begun_now, broken_one, ended, gave_all, given, one_more}
 
 -- what a call does to an object, by what it told and how often it failed
 abbrev pub told_side : Option (List ℕ) → Option (List ℕ) → ℕ → ℕ → Side

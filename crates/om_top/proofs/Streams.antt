@@ -1,5 +1,5 @@
 -- Answering events one after the other.
-use Rattle.std.proofs.Common.{◌≡◌, ◌≢◌, ℕ, ◌+◌, ◌<◌, ◌≤◌, ◌⊎◌, nat_eq, Bool, true, false, List, [], ◌∷◌, ◌++◌, length, Option, Some, None, refl, ap, sym, subst, ◌∙◌, arith, inl, inr, append_assoc, append-nil, take}
+use Rattle.std.proofs.Common.{◌≡◌, ◌≢◌, ℕ, ◌+◌, ◌≤◌, ◌⊎◌, nat_eq, Bool, true, false, List, [], ◌∷◌, ◌++◌, length, Option, Some, refl, ap, sym, subst, ◌∙◌, arith, inl, inr, append_assoc, append-nil, take}
 use Rattle.std.specs.Prelude.{MatchBool}
 use Rattle.std.proofs.lemmas.Bool.{eqb-false, eqb-true}
 use Rattle.std.proofs.lemmas.List.{length-append}
@@ -7,10 +7,9 @@ use Rattle.om_ring.specs.Ops.{Ops}
 use Rattle.om_io.specs.Bytes.{after_told, before_told, AppendsPrefix}
 use Rattle.om_io.specs.Causes.{Rose}
 use Rattle.om_io.proofs.Told.{after_told-nil, appended_more, before_told-nil, gave_more, prefix_after}
-use Rattle.om_io.proofs.Counts.{Rose-longer}
 use Rattle.om_code.specs.Waves.{Incoming}
 use Rattle.om_event.specs.Events.{Events, Legs, Ending as Ended, at_end, bad, too_many, ends, with_event, events_of}
-use Rattle.om_event.specs.Fronts.{Front, whole, bad_line, begun, front_of}
+use Rattle.om_event.specs.Fronts.{Front, whole, bad_line, front_of}
 use Rattle.om_event.specs.Laws.{GoByFronts, events_after}
 use Rattle.om_event.specs.Next.{AtEnd, GivesEnd, GivesEvent, IsOpen as FrontIsOpen, NoneLeft, Refuses}
 use Rattle.om_event.specs.declared.cause.Cause.{Cause}
@@ -23,7 +22,7 @@ use Rattle.om_event.proofs.EventFronts.{goes_by_fronts}
 use Rattle.om_event.proofs.FrontsStay.{Stays, stays}
 use Rattle.om_top.specs.Cost.{events_begun, one_begun}
 use Rattle.om_top.specs.Outside.{Side}
-use Rattle.om_top.specs.Streamed.{Lines, Streamed, StreamedGiven, GainedLines, IsOpen, ended_by, ending_of}
+use Rattle.om_top.specs.Streamed.{Lines, Streamed, StreamedGiven, GainedLines, ending_of}
 use Rattle.om_top.specs.declared.ending.Ending.{Ending}
 use Rattle.om_top.specs.declared.ending.Ending.TheVariants.{Done, EventFault, InputFault, OutFault}
 use Rattle.om_top.specs.declared.faults.event.EventFault.TheVariants as fault

@@ -13,13 +13,13 @@ use Rattle.om_model.specs.declared.process.ProcessFault.{ProcessFault}
 use Rattle.om_modelfile.specs.declared.fault.ModelFault.{ModelFault}
 use Rattle.om_graph.specs.declared.Graph.{Graph}
 use Rattle.om_code.specs.declared.code.Code.{Code}
-use Rattle.om_event.specs.Events.{Ending as Ended, at_end, events_of}
+use Rattle.om_event.specs.Events.{at_end, events_of}
 use Rattle.om_event.specs.declared.kind.WaveKind.{WaveKind}
 use Rattle.om_top.specs.Command.{Command, check, eval, compile, run, graph, sample}
 use Rattle.om_top.specs.EvalRan.{process_kinds}
 use Rattle.om_top.specs.Loads.{HoldsModel, HoldsProgram, IsGraphOf, IsModelFile, IsProgramFile, IsTooLarge, SaysFault, SaysProcess, SaysProgramFault}
 use Rattle.om_top.specs.Message.{status_of}
-use Rattle.om_top.specs.Outside.{Outside, Failed, IsUntouched, IsQuiet}
+use Rattle.om_top.specs.Outside.{Outside, Failed, IsQuiet}
 use Rattle.om_top.specs.Ran.{Ran}
 use Rattle.om_top.specs.Streamed.{kinds_of}
 use Rattle.om_top.specs.declared.faults.program.ProgramFault.{ProgramFault}

@@ -16,10 +16,10 @@ use Rattle.om_sample.specs.Texts.{sample_text}
 use Rattle.om_top.specs.AnswerText.{no_amplitude}
 use Rattle.om_top.specs.Causes.{AreAccepted, HasDiagram}
 use Rattle.om_top.specs.CheckRan.{check_text}
-use Rattle.om_top.specs.Command.{Command, check, eval, compile, run, graph, sample}
+use Rattle.om_top.specs.Command.{check, eval, compile, run, graph, sample}
 use Rattle.om_top.specs.EvalRan.{OwesAnswer, process_kinds}
 use Rattle.om_top.specs.Loads.{IsGraphOf, IsModelFile, IsProgramFile}
-use Rattle.om_top.specs.Outside.{Outside, Side, Failed, Gained, IsDone, IsUntouched}
+use Rattle.om_top.specs.Outside.{Outside, Failed, Gained, IsDone, IsUntouched}
 use Rattle.om_top.specs.Ran.{Ran}
 use Rattle.om_top.specs.RunRan.{OwesMeaning}
 use Rattle.om_top.specs.Streamed.{GainedLines, kinds_of}

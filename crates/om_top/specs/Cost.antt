@@ -1,5 +1,5 @@
 -- How many calls of the ring a run makes at most.
-use Rattle.std.specs.Prelude.{ℕ, ◌≡◌, ◌⊎◌, ◌+◌, ◌*◌, List, length, map, Option, Some, None, Result, Ok, Err}
+use Rattle.std.specs.Prelude.{ℕ, ◌≡◌, ◌⊎◌, ◌+◌, ◌*◌, List, length, Option, Some, None, Result, Ok, Err}
 use Rattle.om_ring.specs.Ops.{Ops}
 use Rattle.om_model.specs.declared.model.Model.{Model}
 use Rattle.om_model.specs.declared.process.Process.{Process}
@@ -10,7 +10,7 @@ use Rattle.om_machine.specs.Bound.{part}
 use Rattle.om_emit.specs.GraphCode.{IsCodeOf}
 use Rattle.om_asm.specs.Program.{program_of}
 use Rattle.om_asm.specs.Rows.{BadLine}
-use Rattle.om_event.specs.Events.{Events, Ending as Ended, at_end, bad, too_many, events_of}
+use Rattle.om_event.specs.Events.{Ending as Ended, at_end, bad, too_many, events_of}
 use Rattle.om_event.specs.declared.kind.WaveKind.{WaveKind}
 use Rattle.om_sample.specs.Model.{sample_model, sample_process}
 use Rattle.om_sample.specs.declared.limits.TheConstants.{SAMPLE_EVENTS}

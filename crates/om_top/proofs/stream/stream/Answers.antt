@@ -1,4 +1,4 @@
-use Rattle.std.proofs.Common.{◌≡◌, ◌+◌, List, ℕ, arith, refl, subst, sym, ◌∙◌}
+use Rattle.std.proofs.Common.{◌+◌, List, ℕ, arith, refl, subst, sym, ◌∙◌}
 use Rattle.om_code.specs.declared.code.Code.{Code}
 use Rattle.om_event.specs.Kinds.{AreKindsOf}
 use Rattle.om_event.proofs.KindsOfCode.{made_by_kinds}

@@ -1,6 +1,4 @@
-use Rattle.std.proofs.Common.{◌≡◌, ◌+◌, ◌*◌, ◌≤◌, true}
-use Rattle.om_event.specs.Kinds.{HasKinds}
-use Rattle.om_machine.specs.Bound.{part}
+use Rattle.std.proofs.Common.{◌+◌, ◌*◌, ◌≤◌}
 use Rattle.om_top.specs.Cost.{event_calls}
 use Rattle.om_top.specs.RunRan.{OwesMeaning}
 use Rattle.om_top.specs.Streamed.{kinds_of}

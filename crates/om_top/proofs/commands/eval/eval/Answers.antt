@@ -1,7 +1,4 @@
 use Rattle.std.proofs.Common.{refl, subst, sym}
-use Rattle.om_model.specs.declared.model.Model.{Model}
-use Rattle.om_model.specs.declared.process.Process.{Process}
-use Rattle.om_graph.specs.declared.Graph.{Graph}
 use Rattle.om_top.specs.EvalRan.{EvalRan, Evaluates}
 use Rattle.om_top.specs.Outside.{IsUntouched, file_side, side}
 use Rattle.om_top.specs.declared.ending.Ending.{Ending}

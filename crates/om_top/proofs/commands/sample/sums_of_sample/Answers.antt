@@ -1,4 +1,4 @@
-use Rattle.std.proofs.Common.{◌≡◌, ◌+◌, ◌*◌, ℕ, length, ap, inr, refl, ◌∙◌}
+use Rattle.std.proofs.Common.{◌+◌, ◌*◌, length, inr, refl}
 use Rattle.om_ring.specs.Ops.{laws_from}
 use Rattle.om_machine.specs.Bound.{part}
 use Rattle.om_machine.specs.Machines.{table_of}

@@ -1,4 +1,4 @@
-use Rattle.std.proofs.Common.{◌∙◌, length, ap, arith, subst, sym}
+use Rattle.std.proofs.Common.{length, ap, arith, subst, sym}
 use Rattle.om_model.specs.ModelTable.{model_table}
 use Rattle.om_model.specs.Rules.{IsAccepted}
 use Rattle.om_model.specs.declared.model.Model.{Model}

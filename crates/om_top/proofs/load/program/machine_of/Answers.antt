@@ -1,5 +1,4 @@
-use Rattle.std.proofs.Common.{◌≡◌, ◌+◌, ◌*◌, ◌≤◌, Ok, length, ℕ, ap, arith, subst, sym}
-use Rattle.om_asm.specs.Program.{program_of}
+use Rattle.std.proofs.Common.{◌*◌, length, ap, arith, subst, sym}
 use Rattle.om_code.specs.declared.code.Code.{Code}
 use Rattle.om_model.specs.ModelTable.{model_table}
 use Rattle.om_machine.specs.Machines.{SameTable, table_of}
