@@ -2,14 +2,23 @@
 ghost use Rattle.std.specs.Prelude.{◌≡◌, ℕ, ◌+◌, ◌-◌, ◌*◌, ◌/◌, ◌≤◌, ◌<◌, ◌≢◌, List, ◌++◌, length, cond, eqb, decimal, []};
 ghost use Rattle.om_colour.specs.Texts.{end_text, flow_bytes, line_item, line_items, one_more, partial_bytes, with_commas};
 ghost use Rattle.om_ring.specs.declared.line.TheConstants.{LINE_BYTES};
-ghost use Rattle.om_colour.specs.declared.texts.TheConstants.{FLOW_BYTES};
+ghost use Rattle.om_colour.specs.declared.texts.TheConstants.{FLOW_BYTES, ITEM_BYTES, LEG_BYTES, LINES_BYTES};
 ghost use Rattle.om_legs.specs.declared.leg_set.TheConstants.{MOST_LEGS};
 
 use crate::{ENDS, Flow, Partial, UPWARDS};
 use om_ring::Line;
 
-/// The most bytes of the text of a flow or a partial flow.
-pub const FLOW_BYTES: usize = 80;
+// The most bytes of the number of a leg: a byte has at most three digits.
+const LEG_BYTES: usize = 3;
+
+// The most bytes of the item of a line behind a comma: a start of two digits, `>` and any end.
+const ITEM_BYTES: usize = 1 + 2 + 1 + LEG_BYTES;
+
+// The most bytes of the items of all lines: the starts 1 to 9 have a digit less.
+const LINES_BYTES: usize = ENDS * ITEM_BYTES - 9;
+
+/// The most bytes of the text of a flow or a partial flow: the items of all lines, and behind them `,>` and a leg.
+pub const FLOW_BYTES: usize = LINES_BYTES + 2 + LEG_BYTES;
 
 /// What a text shows the lines of.
 #[derive(Clone, Copy)]
@@ -52,10 +61,10 @@ pub fn partial_text(part: &Partial, to: &mut Line)
 
 // Appends the items of the lines, and says how many there are.
 fn push_lines(to: &mut Line, extent: Extent, ends: &[u8; ENDS]) -> usize
-    requires { length to.old + 75 ≤ LINE_BYTES }
+    requires { length to.old + LINES_BYTES ≤ LINE_BYTES }
     ensures text { to.new ≡ to.old ++ with_commas (line_items extent 1 ends.now) }
     ensures count { result ≡ length (line_items extent 1 ends.now) }
-    ensures short { length to.new ≤ length to.old + 75 }
+    ensures short { length to.new ≤ length to.old + LINES_BYTES }
 {
     let mut count = 0;
     for (k, end) in ends.iter().enumerate() {
@@ -70,9 +79,9 @@ fn push_lines(to: &mut Line, extent: Extent, ends: &[u8; ENDS]) -> usize
 // Appends the item of a line, behind a comma where it isn't the first.
 fn push_item(to: &mut Line, count: usize, extent: Extent, start: u8, end: u8)
     requires start { start ≤ MOST_LEGS }
-    requires free { length to.old + 7 ≤ LINE_BYTES }
+    requires free { length to.old + ITEM_BYTES ≤ LINE_BYTES }
     ensures text { to.new ≡ to.old ++ one_more count (line_item extent start end) }
-    ensures short { length to.new ≤ length to.old + 6 + start / 10 }
+    ensures short { length to.new ≤ length to.old + (ITEM_BYTES - 1) + start / 10 }
 {
     push_comma(to, count);
     push_leg(to, start);
@@ -96,9 +105,9 @@ fn push_comma(to: &mut Line, count: usize)
 // Appends the number of a leg.
 #[tactic(auto, using(std::proofs::lemmas::Fmt::decimal_digit, crate::proofs::LegNumbers::decimal_two, crate::proofs::LegNumbers::decimal_three))]
 fn push_leg(to: &mut Line, leg: u8)
-    requires { length to.old + 3 ≤ LINE_BYTES }
+    requires { length to.old + LEG_BYTES ≤ LINE_BYTES }
     ensures text { to.new ≡ to.old ++ decimal leg }
-    ensures short { length to.new ≤ length to.old + 3 }
+    ensures short { length to.new ≤ length to.old + LEG_BYTES }
     ensures one { leg < 10 → length to.new ≤ length to.old + 1 }
     ensures two { leg < 100 → length to.new ≤ length to.old + 2 }
 {
