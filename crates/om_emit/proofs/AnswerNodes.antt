@@ -1,6 +1,6 @@
 -- The waves of the nodes of a canonical graph are those that its code makes.
-use Rattle.std.proofs.Common.{◌≡◌, ℕ, zero, suc, ◌+◌, ◌-◌, ◌<◌, ◌≤◌, List, [], ◌∷◌, length, map, Bool, true, false, inl, inr, Some, refl, ap, ap₂, sym, subst, ◌∙◌, arith, lit<}
-use Rattle.std.specs.Prelude.{◌/◌, ◌%◌, ◌==◌, if◌then◌else◌, slice_get, slice_index_or}
+use Rattle.std.proofs.Common.{◌≡◌, ℕ, zero, suc, ◌+◌, ◌-◌, ◌<◌, ◌≤◌, List, [], ◌∷◌, length, map, Bool, true, false, inl, inr, Some, refl, ap, ap₂, sym, subst, ◌∙◌, arith}
+use Rattle.std.specs.Prelude.{◌/◌, ◌%◌, ◌==◌, if◌then◌else◌, slice_get}
 use Rattle.std.proofs.lemmas.Bool.{eqb-true}
 use Rattle.std.proofs.lemmas.Option.{same_Some}
 use mathlib.Core.Path.{fun_ext}
@@ -11,7 +11,6 @@ use Rattle.om_ring.proofs.RingLemmas.{times_left_comm}
 use Rattle.om_ring.proofs.SumLemmas.{sum_over-ext, times-sum_over}
 use Rattle.om_lorentz.specs.declared.structures.Spin.{Spin}
 use Rattle.om_lorentz.specs.declared.structures.Spin.TheVariants.{Scalar, Dirac, Vector}
-use Rattle.om_lorentz.specs.Matrices.{reversed}
 use Rattle.om_lorentz.specs.Propagators.{propagator}
 use Rattle.om_lorentz.specs.Structures as structures
 use Rattle.om_legs.specs.Legs as sets
@@ -33,6 +32,7 @@ use Rattle.om_model.specs.TwoSided.{AreOpposite}
 use Rattle.om_model.specs.WellFormed.{IsWellFormed}
 use Rattle.om_model.proofs.ModelFields.{anti_row}
 use Rattle.om_model.proofs.TurnedEdge.{opposite}
+use Rattle.om_model.proofs.TwoSided.{reversed_is}
 use Rattle.om_graph.specs.declared.Graph.{Graph}
 use Rattle.om_graph.specs.declared.Key.{Key}
 use Rattle.om_graph.specs.declared.Term.{Term}
@@ -59,6 +59,7 @@ use Rattle.om_code.specs.Slots as slots
 use Rattle.om_code.specs.Slots.{nodes_of}
 use Rattle.om_code.specs.Waves.{Incoming, momentum_behind, plus_wave, wave_of, wave_of_leg, zero_wave}
 use Rattle.om_machine.specs.Events.{IsMadeFor, kind_of_spin}
+use Rattle.om_machine.proofs.ReadyWalk.{leg-kind, made-kind}
 use Rattle.om_emit.specs.GraphCode.{IsCodeOf, den_of, den_place, graph_dens}
 use Rattle.om_emit.specs.NodeCode.{added, gathered}
 use Rattle.om_emit.specs.NodeContents.{AreNodeContents, node_content, term_content}
@@ -87,20 +88,11 @@ module _ {E : Type 0} (o : Ops E) (l : Laws o) where
   wave-whole (waves.Column q) = refl
   wave-whole (waves.Vector q) = refl
 
-  kind-made : (k : Kind) (f : ℕ → E) → kind_of (wave_of k f) ≡ k
-  kind-made a_scalar f = refl
-  kind-made a_row f = refl
-  kind-made a_column f = refl
-  kind-made a_vector f = refl
-
   plus-made : (k : Kind) (f g : ℕ → E) → plus_wave o (wave_of k f) (wave_of k g) ≡ wave_of k (λ j. o.plus (f j) (g j))
   plus-made a_scalar f g = refl
   plus-made a_row f g = refl
   plus-made a_column f g = refl
   plus-made a_vector f g = refl
-
-  reversed_is : (p q : ℕ → E) → AreOpposite o p q → reversed o (four_of p) ≡ four_of q
-  reversed_is p q h = rw (h 0 (lit< tt), h 1 (lit< tt), h 2 (lit< tt), h 3 (lit< tt)) refl
 
   -- over an edge as of a diagram
   edge-is : (spin : Spin) (b : Bool) (m : E) (p q : ℕ → E) → AreOpposite o p q → (f : ℕ → E) (i : ℕ)
@@ -108,7 +100,7 @@ module _ {E : Type 0} (o : Ops E) (l : Laws o) where
   edge-is Scalar b m p q h f i = refl
   edge-is Vector b m p q h f i = refl
   edge-is Dirac true m p q h f i = refl
-  edge-is Dirac false m p q h f i = ap (λ k. sum_over o (structures.indices_of Dirac) (λ j. o.times (propagator o Dirac m k j i) (f j))) (reversed_is p q h)
+  edge-is Dirac false m p q h f i = ap (λ k. sum_over o (structures.indices_of Dirac) (λ j. o.times (propagator o Dirac m k j i) (f j))) (reversed_is o l p q h)
 
   -- the waves that gather one after the other
   module _ (c : Code) (t : Table E) (e : Incoming E) (h : Held) (k : Kind) {A : Type 0} (f : A → ℕ → E) where
@@ -125,13 +117,6 @@ module _ {E : Type 0} (o : Ops E) (l : Laws o) where
     gathered-is : (blank : Content E) (xs : List A) → 0 < length xs → gathered (plus_content o c t e) blank (map one_of xs) ≡ (h, wave_of k (λ j. sum_over o xs (λ x. f x j)))
     gathered-is blank [] some = absurd (omega (arith, some))
     gathered-is blank (x ∷ xs) some = added-is (f x) xs
-
-leg-kind : {E : Type 0} (o : Ops E) (k_of : ℕ → Kind) (ws : List (Wave E)) (fs : List ℕ) → map kind_of ws ≡ map k_of fs → (k : ℕ) → k < length fs → kind_of (slice_index_or ws k (zero_wave o)) ≡ k_of (slice_index_or fs k 0)
-leg-kind o k_of [] [] e k h = absurd (omega (arith, h))
-leg-kind o k_of [] (f ∷ fs) e k h = cc
-leg-kind o k_of (w ∷ ws) [] e k h = cc
-leg-kind o k_of (w ∷ ws) (f ∷ fs) e zero h = cc
-leg-kind o k_of (w ∷ ws) (f ∷ fs) e (suc k) h = (let rest : map kind_of ws ≡ map k_of fs = cc in leg-kind o k_of ws fs rest k (omega arith))
 
 map-same : {A B : Type 0} (f g : A → B) (xs : List A) → ((x : A) → In x xs → f x ≡ g x) → map f xs ≡ map g xs
 map-same f g [] h = refl
@@ -296,7 +281,7 @@ module _ {E : Type 0} (o : Ops E) (l : Laws o) (c : Code) (p : Process) (formed 
           (wave-ext o l spin (k.field % 2 == 0) (wave n) (λ j. o.times (factor_at o c t e (slice_get c.dens den)) (edge_sum o (t.mass (k.field / 2)) (momentum_behind o e k.legs) w j))
           (λ j m. are n k at j m ∙ ap (λ b. if b then inner_value n k j else event.wave (sets.least k.legs) j) inner ∙ over-edge k i (added_up n k) j
           ∙ ap (λ x. o.times x (edge_sum o (t.mass (k.field / 2)) (momentum_behind o e k.legs) w j)) (sym (factor-is k i inner)))
-          ∙ ap (λ q. wave_of q (λ j. o.times (factor_at o c t e (slice_get c.dens den)) (edge_sum o (t.mass (k.field / 2)) (momentum_behind o e k.legs) w j))) (sym (kind-made o l (kind k.field) (added_up n k))))
+          ∙ ap (λ q. wave_of q (λ j. o.times (factor_at o c t e (slice_get c.dens den)) (edge_sum o (t.mass (k.field / 2)) (momentum_behind o e k.legs) w j))) (sym (made-kind o (kind k.field) (added_up n k))))
 
       node-is : (n : ℕ) (k : Key) → slice_get g.nodes n ≡ Some k → held_by n ≡ node_content (plus_content o c t e) (empty_content o c t e) (code_meaning o c t e) (den_place c.model (length p.legs) g) g.terms held_by n k
       unfolding node_content

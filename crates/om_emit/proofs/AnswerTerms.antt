@@ -53,6 +53,7 @@ use Rattle.om_code.specs.Waves.{Incoming, event_of, signed_wave, wave_of}
 use Rattle.om_machine.specs.Events.{kind_of_field}
 use Rattle.om_machine.proofs.FieldKinds.{AreWell, anti-kind, fused-opposite, slots-kinds}
 use Rattle.om_machine.proofs.FieldKinds as fields
+use Rattle.om_machine.proofs.ReadyWalk.{opposite-at}
 use Rattle.om_emit.specs.GraphCode.{IsCodeOf}
 use Rattle.om_emit.proofs.GraphHelds.{as_many_legs, fuse_makes}
 use Rattle.om_emit.proofs.HeldFinds.{fused_held}
@@ -61,11 +62,6 @@ use Rattle.om_emit.proofs.AnswerKernels.{nested, open_edges}
 use Rattle.om_emit.proofs.AnswerMeets.{AreMet, closes-in, fuses-in, opens-at, wave-sum}
 use Rattle.om_emit.proofs.AnswerSets.{IsSetOf, node_set, other_side, others_are}
 use Rattle.om_emit.proofs.AnswerSlots.{part_in}
-
-opposite-at : (kind_of : ℕ → Kind) (fs : List ℕ) (k f : ℕ) → slice_get fs k ≡ Some f → slice_index_or (map fields.opposite (map kind_of fs)) k a_scalar ≡ fields.opposite (kind_of f)
-opposite-at kind_of [] k f e = cc
-opposite-at kind_of (g ∷ fs) zero f e = (let same : g ≡ f = cc in ap (λ x. fields.opposite (kind_of x)) same)
-opposite-at kind_of (g ∷ fs) (suc k) f e = opposite-at kind_of fs k f e
 
 signed-of : {E : Type 0} (o : Ops E) (b : Bool) (k : Kind) (f : ℕ → E) → signed_wave o b (wave_of k f) ≡ wave_of k (λ n. signed o b (f n))
 signed-of o false k f = refl

@@ -12,7 +12,7 @@ use Rattle.om_ring.specs.Members.{In, Different}
 use Rattle.om_code.specs.Spans.{span_holds, width}
 use Rattle.om_code.specs.SlotPlans.{Given, taken_at, give, give_each, given_before, slot_in, slot_or_0, first_fit, slots_used}
 use Rattle.om_emit.specs.Planning.{Planning, give_slot, give_slots, freed, free_slot, free_slots, planned, last_uses}
-use Rattle.om_ring.proofs.Members.{in_map, of_map, in_filter, in_from_member, member_from_in, distinct, few_below}
+use Rattle.om_ring.proofs.Members.{in_map, in_mapped, in_filter, in_from_member, member_from_in, distinct, few_below}
 use Rattle.om_code.proofs.SpanFacts.{Before, After, line_after, after_line, line_before, after_shrinks, before_grows, span_from, parts_of_span, after_named}
 use Rattle.om_code.proofs.FirstFit.{AreGiven, give_each-given, given_before-given, has_slot, first_fit-narrow, first_fit-is, slot_of}
 use Rattle.om_emit.proofs.FreeSlots.{inserted, same_free}
@@ -124,9 +124,9 @@ module _ (lines : List (List ℕ)) (n i : ℕ) (l : i < length lines) (all : Lis
   held_from_taken : (q : ℕ) → In q (taken_at lines i given) → IsHeld lines i [] given q
   unfolding taken_at
   held_from_taken q j =
-      let u = of_map (λ g. g.1) (filter (λ g. span_holds lines i g.0) given) q j in
-      let v = (in_filter (λ g. span_holds lines i g.0) u.source given).0 u.is_in in
-      record { which = u.source; is_given = v.0; holds = v.1; slot = sym u.is; kept = λ z. absurd z }
+      let u = in_mapped (λ g. g.1) q (filter (λ g. span_holds lines i g.0) given) j in
+      let v = (in_filter (λ g. span_holds lines i g.0) u.0 given).0 u.1 in
+      record { which = u.0; is_given = v.0; holds = v.1; slot = sym u.2; kept = λ z. absurd z }
 
   taken_from_held : (q : ℕ) → IsHeld lines i [] given q → In q (taken_at lines i given)
   unfolding taken_at
@@ -145,11 +145,11 @@ module _ (lines : List (List ℕ)) (n i : ℕ) (l : i < length lines) (all : Lis
   held_from_next : (done : List ℕ) → (q : ℕ) → In q (taken_at lines (i + 1) given) → IsHeld lines i done given q
   unfolding taken_at
   held_from_next done q j =
-      let u = of_map (λ g. g.1) (filter (λ g. span_holds lines (i + 1) g.0) given) q j in
-      let v = (in_filter (λ g. span_holds lines (i + 1) g.0) u.source given).0 u.is_in in
-      let parts = parts_of_span lines (i + 1) u.source.0 v.1 in
-      let before : Before lines (i + 1) u.source.0 = line_before lines i u.source.0 l (⊎_elim inl (λ z. inr (a.done_here u.source.0 z)) (a.from u.source.0 (in_map (λ g. g.0) u.source given v.0))) in
-      record { which = u.source; is_given = v.0; holds = span_from lines i u.source.0 before (after_shrinks lines i (i + 1) u.source.0 (omega arith) parts.1); slot = sym u.is; kept = λ z. parts.1 }
+      let u = in_mapped (λ g. g.1) q (filter (λ g. span_holds lines (i + 1) g.0) given) j in
+      let v = (in_filter (λ g. span_holds lines (i + 1) g.0) u.0 given).0 u.1 in
+      let parts = parts_of_span lines (i + 1) u.0.0 v.1 in
+      let before : Before lines (i + 1) u.0.0 = line_before lines i u.0.0 l (⊎_elim inl (λ z. inr (a.done_here u.0.0 z)) (a.from u.0.0 (in_map (λ g. g.0) u.0 given v.0))) in
+      record { which = u.0; is_given = v.0; holds = span_from lines i u.0.0 before (after_shrinks lines i (i + 1) u.0.0 (omega arith) parts.1); slot = sym u.2; kept = λ z. parts.1 }
 
   line-planned : (p : Planning) → ((r : ℕ) → In r (get_or lines i []) → (r < n) × In r (keys_of given)) → IsPlanned lines n given (λ q. In q (taken_at lines i given)) p
       → IsPlanned lines n given (λ q. In q (taken_at lines (i + 1) given)) (free_slots (last_uses n lines (length lines)) i p (get_or lines i []))
@@ -222,9 +222,9 @@ module _ (lines : List (List ℕ)) (n : ℕ) (small : (r : ℕ) → In r (concat
   used_few : (count : ℕ) → ((g : ℕ × ℕ) → In g (given_before lines (length lines)) → g.1 < count) → slots_used lines (first_fit lines) ≤ count
   unfolding slots_used
   used_few count below = few_below (map (first_fit lines) (concat lines)) count (λ q j.
-      let u = of_map (first_fit lines) (concat lines) q j in
-      let s = slot_of lines u.source u.is_in in
-      subst (λ x. x < count) (sym (u.is ∙ first_fit-is lines u.source u.is_in)) (below (u.source, s.slot) s.is_in))
+      let u = in_mapped (first_fit lines) q (concat lines) j in
+      let s = slot_of lines u.0 u.1 in
+      subst (λ x. x < count) (sym (u.2 ∙ first_fit-is lines u.0 u.1)) (below (u.0, s.slot) s.is_in))
 
   pub count-is : (planned (last_uses n lines (length lines)) lines (nothing n) (length lines)).count ≡ width lines
   count-is =
@@ -233,7 +233,7 @@ module _ (lines : List (List ℕ)) (n : ℕ) (small : (r : ℕ) → In r (concat
       let count = (planned (last_uses n lines (length lines)) lines (nothing n) (length lines)).count in
       let narrow = first_fit-narrow lines in
       let up : count ≤ width lines = ⊎_elim
-      (λ (b : width lines < count). let u = of_map (λ g. g.1) (given_before lines (length lines)) (width lines) (w.used (width lines) b) in let c : u.source.1 < width lines = a.small u.source u.is_in in let e : width lines ≡ u.source.1 = u.is in absurd (omega arith))
+      (λ (b : width lines < count). let u = in_mapped (λ g. g.1) (width lines) (given_before lines (length lines)) (w.used (width lines) b) in let c : u.0.1 < width lines = a.small u.0 u.1 in let e : width lines ≡ u.0.1 = u.2 in absurd (omega arith))
       (λ (b : count ≤ width lines). b)
       (cases_lt (width lines) count) in
       let down : width lines ≤ count = subst (λ x. x ≤ count) narrow.used (used_few count w.below) in

@@ -9,7 +9,7 @@ use Rattle.std.proofs.lemmas.Bool.Decides.{nat_tests}
 use Rattle.std.proofs.lemmas.List.Sums.{sum_by-cons, sum_by-append}
 use Rattle.om_legs.specs.Legs.{IsLegSet, holds, legs_of, every_leg}
 use Rattle.om_legs.specs.Crossings.{crossings, is_odd, bit_sum}
-use Rattle.om_legs.proofs.Members.{In}
+use Rattle.om_ring.specs.Members.{In}
 use Rattle.om_legs.proofs.Bits.{bit, bit-holds}
 use Rattle.om_legs.proofs.LegLists.{leg_sum, sum_by-every_leg, count_ones-bit_sum}
 

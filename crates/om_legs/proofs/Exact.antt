@@ -11,7 +11,9 @@ use Rattle.std.proofs.lemmas.Cmp.{nat_list_cmp_total, tied_itself}
 use Rattle.om_legs.specs.Legs.{IsLegSet, holds, minus}
 use Rattle.om_legs.specs.Walks.{without_least, subsets_down, pairs_left, pairs, refined, triples, quadruples}
 use Rattle.om_legs.specs.Splits.{IsSplit, times_held, IsBefore, AreSplits}
-use Rattle.om_legs.proofs.Members.{In, Contains-from_In, In-from_Contains, in_map, in_map_source, in_flat_map, in_flat_map_source, Rising, AllPairs-from_Rising, Rising-map, Rising-flat_map, Rising-weaker}
+use Rattle.om_ring.specs.Members.{In}
+use Rattle.om_ring.proofs.Members.{in_map, in_mapped, in_flat_map, from_flat_map}
+use Rattle.om_legs.proofs.Members.{Contains-from_In, In-from_Contains, Rising, AllPairs-from_Rising, Rising-map, Rising-flat_map, Rising-weaker}
 use Rattle.om_legs.proofs.Bits.{bit, same_sets}
 use Rattle.om_legs.proofs.Operations.{meeting-bit_and, IsLegSet-subset}
 use Rattle.om_legs.proofs.Subsets.{in_subsets_down, subsets_down_in, subsets_fall}
@@ -77,7 +79,7 @@ the_one_part set (part ∷ p ∷ parts) h = absurd (let e = h.counted in omega a
 in_pairs : (set : ℕ) (x : List ℕ) → In x (pairs set) → (others : ℕ) × IsFirst set (minus set others) others × (x ≡ minus set others ∷ others ∷ [])
 unfolding pairs_left
 in_pairs set x i =
-    let s = in_map_source (λ part. minus set part ∷ part ∷ []) x (subsets_down (without_least set) (without_least set)) i in
+    let s = in_mapped (λ part. minus set part ∷ part ∷ []) x (subsets_down (without_least set) (without_least set)) i in
     let u = in_subsets_down (without_least set) (without_least set) s.0 s.1 in
     (s.0, record { some = u.some; within = u.within; left = refl }, s.2)
 
@@ -136,10 +138,10 @@ pairs_exact set w = record {
 module _ (count : ℕ) (splits : ℕ → List (List ℕ)) (each : (others : ℕ) → IsLegSet others → Exact (suc count) others (splits others)) (set : ℕ) (w : IsLegSet set) where
   refined_right : (x : List ℕ) → In x (flat_map (refined splits) (pairs set)) → IsSplit (suc (suc count)) set x
   refined_right x i =
-      let s = in_flat_map_source (refined splits) x (pairs set) i in
+      let s = from_flat_map (refined splits) x (pairs set) i in
       let p = in_pairs set s.0 s.1 in
       let others = p.0 in
-      let t = in_map_source (λ parts. minus set others ∷ parts) x (splits others) (subst (λ y. In x (refined splits y)) p.2 s.2) in
+      let t = in_mapped (λ parts. minus set others ∷ parts) x (splits others) (subst (λ y. In x (refined splits y)) p.2 s.2) in
       let h = (each others (IsLegSet-subset others (without_least set) p.1.within)).right t.0 t.1 in
       subst (IsSplit (suc (suc count)) set) (sym t.2) (split_from_first set w (minus set others) others p.1 count t.0 h)
 
@@ -164,8 +166,8 @@ module _ (count : ℕ) (splits : ℕ → List (List ℕ)) (each : (others : ℕ)
       between x y u v i j l k m =
           let p = in_pairs set x i in
           let q = in_pairs set y j in
-          let s = in_map_source (λ parts. minus set p.0 ∷ parts) u (splits p.0) (subst (λ z. In u (refined splits z)) p.2 k) in
-          let t = in_map_source (λ parts. minus set q.0 ∷ parts) v (splits q.0) (subst (λ z. In v (refined splits z)) q.2 m) in
+          let s = in_mapped (λ parts. minus set p.0 ∷ parts) u (splits p.0) (subst (λ z. In u (refined splits z)) p.2 k) in
+          let t = in_mapped (λ parts. minus set q.0 ∷ parts) v (splits q.0) (subst (λ z. In v (refined splits z)) q.2 m) in
           let less : minus set p.0 < minus set q.0 = rw (p.2, q.2) at l in
           rw (s.2, t.2) (first_less (minus set p.0) (minus set q.0) s.0 t.0 less)
 

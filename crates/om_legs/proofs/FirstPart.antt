@@ -8,7 +8,9 @@ use Rattle.std.proofs.lemmas.Bool.{cases_Bool, cases_eq, true≢false}
 use Rattle.om_legs.specs.Legs.{IsLegSet, IsSubset, holds, minus, least}
 use Rattle.om_legs.specs.Walks.{without_least}
 use Rattle.om_legs.specs.Splits.{IsSplit, times_held}
-use Rattle.om_legs.proofs.Members.{In, Contains-from_In, in_map, in_map_source, Rising, Rising-from_AllPairs, AllPairs-from_Rising}
+use Rattle.om_ring.specs.Members.{In}
+use Rattle.om_ring.proofs.Members.{in_map, in_mapped}
+use Rattle.om_legs.proofs.Members.{Contains-from_In, Rising, Rising-from_AllPairs, AllPairs-from_Rising}
 use Rattle.om_legs.proofs.Bits.{bit, leg_range}
 use Rattle.om_legs.proofs.LegLists.{holds_none}
 use Rattle.om_legs.proofs.Operations.{IsLegSet-from_legs, IsLegSet-subset, IsLegSet-minus}
@@ -155,5 +157,5 @@ module _ (set : ℕ) (w : IsLegSet set) (first others : ℕ) (f : IsFirst set fi
       counted = (let e = h.counted in omega arith);
       filled = All-cons (λ p. 0 < p) first parts (held_some first (least set) first_has_least) h.filled;
       shared = λ leg. (let c = times_held-cons leg first parts in let e = h.shared leg in let s = shares.shared leg in omega arith);
-      ordered = increasing_from_Rising (map least (first ∷ parts)) ((λ l i. (let s = in_map_source least l parts i in subst (λ k. least first < k) (sym s.2) (first_before s.0 s.1))), rising_numbers (map least parts) h.ordered);
+      ordered = increasing_from_Rising (map least (first ∷ parts)) ((λ l i. (let s = in_mapped least l parts i in subst (λ k. least first < k) (sym s.2) (first_before s.0 s.1))), rising_numbers (map least parts) h.ordered);
     }

@@ -13,7 +13,8 @@ use Rattle.std.proofs.lemmas.List.Kept.{IsStrictlyIncreasing-filter}
 use Rattle.std.proofs.Math.Nat.{pow-suc}
 use Rattle.om_legs.specs.Legs.{IsLegSet, holds, legs_of, every_leg, size, least}
 use Rattle.om_legs.specs.Crossings.{bit_sum}
-use Rattle.om_legs.proofs.Members.{In, Contains-from_In, In-from_Contains}
+use Rattle.om_ring.specs.Members.{In}
+use Rattle.om_legs.proofs.Members.{Contains-from_In, In-from_Contains}
 use Rattle.om_legs.proofs.Bits.{bit, bit-holds, holds-bit, leg_range, holds-zero}
 
 -- ---- members

@@ -1,10 +1,8 @@
--- Members of lists by recursion, and their tie to `Contains` and `AllPairs`, which go by index.
-use Rattle.std.proofs.Common.{◌≡◌, ℕ, zero, suc, ◌<◌, List, [], ◌∷◌, ◌++◌, map, length, get_or, ◌⊎◌, inl, inr, ⊎_elim, refl, ap, sym, subst, arith}
+-- The tie of members of lists to `Contains` and `AllPairs`, which go by index, and lists that rise.
+use Rattle.std.proofs.Common.{ℕ, zero, suc, ◌<◌, List, [], ◌∷◌, ◌++◌, map, length, get_or, inl, inr, ⊎_elim, refl, sym, subst, arith}
 use Rattle.std.specs.List.{Contains, AllPairs, flat_map}
-
-abbrev pub In : {A : Type 0} → A → List A → Type 0
-In x [] = ⊥
-In x (y ∷ ys) = (x ≡ y) ⊎ In x ys
+use Rattle.om_ring.specs.Members.{In}
+use Rattle.om_ring.proofs.Members.{in_either, in_mapped, from_flat_map}
 
 pub In-get_or : {A : Type 0} (xs : List A) (k : ℕ) (d : A) → k < length xs → In (get_or xs k d) xs
 In-get_or [] k d h = absurd (omega arith)
@@ -18,42 +16,6 @@ Contains-from_In (y ∷ ys) x (inr i) = let c = Contains-from_In ys x i in (suc 
 
 pub In-from_Contains : {A : Type 0} (xs : List A) (x : A) → Contains xs x → In x xs
 In-from_Contains xs x c = subst (λ y. In y xs) c.2 (In-get_or xs c.0 x c.1)
-
-pub in_append_left : {A : Type 0} (x : A) (xs ys : List A) → In x xs → In x (xs ++ ys)
-in_append_left x [] ys h = absurd h
-in_append_left x (y ∷ xs) ys (inl e) = inl e
-in_append_left x (y ∷ xs) ys (inr h) = inr (in_append_left x xs ys h)
-
-pub in_append_right : {A : Type 0} (x : A) (xs ys : List A) → In x ys → In x (xs ++ ys)
-in_append_right x [] ys h = h
-in_append_right x (y ∷ xs) ys h = inr (in_append_right x xs ys h)
-
-pub in_append_cases : {A : Type 0} (x : A) (xs ys : List A) → In x (xs ++ ys) → In x xs ⊎ In x ys
-in_append_cases x [] ys h = inr h
-in_append_cases x (y ∷ xs) ys (inl e) = inl (inl e)
-in_append_cases x (y ∷ xs) ys (inr h) = ⊎_elim (λ i. inl (inr i)) (λ i. inr i) (in_append_cases x xs ys h)
-
-pub in_map : {A B : Type 0} (f : A → B) (x : A) (xs : List A) → In x xs → In (f x) (map f xs)
-in_map f x [] h = absurd h
-in_map f x (y ∷ xs) (inl e) = inl (ap f e)
-in_map f x (y ∷ xs) (inr h) = inr (in_map f x xs h)
-
-pub in_map_source : {A B : Type 0} (f : A → B) (y : B) (xs : List A) → In y (map f xs) → (x : A) × In x xs × (y ≡ f x)
-in_map_source f y [] i = absurd i
-in_map_source f y (x ∷ xs) (inl e) = (x, inl refl, e)
-in_map_source f y (x ∷ xs) (inr i) = let h = in_map_source f y xs i in (h.0, inr h.1, h.2)
-
-pub in_flat_map : {A B : Type 0} (f : A → List B) (x : A) (y : B) (xs : List A) → In x xs → In y (f x) → In y (flat_map f xs)
-in_flat_map f x y [] h i = absurd h
-in_flat_map f x y (z ∷ xs) (inl e) i = in_append_left y (f z) (flat_map f xs) (subst (λ w. In y (f w)) e i)
-in_flat_map f x y (z ∷ xs) (inr h) i = in_append_right y (f z) (flat_map f xs) (in_flat_map f x y xs h i)
-
-pub in_flat_map_source : {A B : Type 0} (f : A → List B) (y : B) (xs : List A) → In y (flat_map f xs) → (x : A) × In x xs × In y (f x)
-in_flat_map_source f y [] i = absurd i
-in_flat_map_source f y (x ∷ xs) i = ⊎_elim
-    (λ h. (x, inl refl, h))
-    (λ h. (let s = in_flat_map_source f y xs h in (s.0, inr s.1, s.2)))
-    (in_append_cases y (f x) (flat_map f xs) i)
 
 -- each member stands before all later ones
 abbrev pub Rising : {A : Type 0} → (A → A → Type 0) → List A → Type 0
@@ -77,7 +39,7 @@ Rising-from_AllPairs R (x ∷ xs) h = (
 pub Rising-append : {A : Type 0} (R : A → A → Type 0) (xs ys : List A) → Rising R xs → Rising R ys → ((x y : A) → In x xs → In y ys → R x y) → Rising R (xs ++ ys)
 Rising-append R [] ys p q h = q
 Rising-append R (x ∷ xs) ys p q h = (
-  (λ y i. ⊎_elim (λ j. p.0 y j) (λ j. h x y (inl refl) j) (in_append_cases y xs ys i)),
+  (λ y i. ⊎_elim (λ j. p.0 y j) (λ j. h x y (inl refl) j) (in_either y xs ys i)),
   Rising-append R xs ys p.1 q (λ z y i j. h z y (inr i) j),
 )
 
@@ -89,7 +51,7 @@ Rising-weaker R S (x ∷ xs) h r = ((λ y i. h x y (inl refl) (inr i) (r.0 y i))
 pub Rising-map : {A B : Type 0} (R : A → A → Type 0) (S : B → B → Type 0) (f : A → B) (xs : List A) → ((x y : A) → In x xs → In y xs → R x y → S (f x) (f y)) → Rising R xs → Rising S (map f xs)
 Rising-map R S f [] h r = tt
 Rising-map R S f (x ∷ xs) h r = (
-  (λ y i. (let s = in_map_source f y xs i in subst (S (f x)) (sym s.2) (h x s.0 (inl refl) (inr s.1) (r.0 s.0 s.1)))),
+  (λ y i. (let s = in_mapped f y xs i in subst (S (f x)) (sym s.2) (h x s.0 (inl refl) (inr s.1) (r.0 s.0 s.1)))),
   Rising-map R S f xs (λ z y i j. h z y (inr i) (inr j)) r.1,
 )
 
@@ -98,4 +60,4 @@ pub Rising-flat_map : {A B : Type 0} (R : A → A → Type 0) (S : B → B → T
 Rising-flat_map R S f [] each between r = tt
 Rising-flat_map R S f (x ∷ xs) each between r = Rising-append S (f x) (flat_map f xs) (each x (inl refl))
     (Rising-flat_map R S f xs (λ y i. each y (inr i)) (λ y z u v i j. between y z u v (inr i) (inr j)) r.1)
-    (λ u v i j. (let s = in_flat_map_source f v xs j in between x s.0 u v (inl refl) (inr s.1) (r.0 s.0 s.1) i s.2))
+    (λ u v i j. (let s = from_flat_map f v xs j in between x s.0 u v (inl refl) (inr s.1) (r.0 s.0 s.1) i s.2))

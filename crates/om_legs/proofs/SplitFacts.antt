@@ -6,7 +6,8 @@ use Rattle.std.proofs.lemmas.List.Sums.{sum_by-cons}
 use Rattle.std.proofs.lemmas.Bool.{cases_Bool, cases_eq, true≢false}
 use Rattle.om_legs.specs.Legs.{IsLegSet, Meet, holds, minus, least, size}
 use Rattle.om_legs.specs.Splits.{IsSplit, times_held}
-use Rattle.om_legs.proofs.Members.{In, Contains-from_In, In-from_Contains, Rising, AllPairs-from_Rising, Rising-from_AllPairs}
+use Rattle.om_ring.specs.Members.{In}
+use Rattle.om_legs.proofs.Members.{Contains-from_In, In-from_Contains, Rising, AllPairs-from_Rising, Rising-from_AllPairs}
 use Rattle.om_legs.proofs.Bits.{bit}
 use Rattle.om_legs.proofs.FirstPart.{times_held-cons, held_counted, counted_held, split_of_others, IsFirst-of_split, shares}
 use Rattle.om_legs.proofs.Exact.{the_one_part}

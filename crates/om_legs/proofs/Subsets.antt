@@ -7,7 +7,8 @@ use Rattle.std.proofs.lemmas.Bool.{cases_eq, eq-eqb, ne_eqb, eqb-true, true≢fa
 use Rattle.std.proofs.Math.Nat.{pow-suc}
 use Rattle.om_legs.specs.Legs.{IsLegSet, IsSubset, meeting}
 use Rattle.om_legs.specs.Walks.{subsets_down}
-use Rattle.om_legs.proofs.Members.{In, Rising}
+use Rattle.om_ring.specs.Members.{In}
+use Rattle.om_legs.proofs.Members.{Rising}
 use Rattle.om_legs.proofs.Operations.{meeting-bit_and}
 
 -- x is a subset of r, as bits
