@@ -1,8 +1,8 @@
 -- Told bytes over several reads and writes.
-use Rattle.std.proofs.Common.{◌≡◌, ℕ, ◌+◌, ◌-◌, List, [], ◌++◌, length, take, drop, Option, Some, None, IfSome, is_some, refl, ap, sym, ◌∙◌, arith, append_assoc}
+use Rattle.std.proofs.Common.{◌≡◌, ℕ, ◌+◌, ◌-◌, List, [], ◌++◌, length, take, drop, Option, Some, None, IfSome, refl, ap, sym, ◌∙◌, arith, append_assoc}
 use Rattle.std.proofs.Math.Seq.{take-add}
 use Rattle.std.proofs.lemmas.Grind.{common_steps}
-use Rattle.std.proofs.lemmas.List.{append-nil, drop_at, take_all, take_at, take-append-le}
+use Rattle.std.proofs.lemmas.List.{append-nil, drop_at, take_at}
 use Rattle.om_io.specs.Bytes.{after_told, before_told, AppendsPrefix}
 
 -- no byte before the told ones
@@ -15,28 +15,14 @@ pub before_told-append : (a b : List ℕ) (told : Option (List ℕ)) → before_
 before_told-append a b None = refl
 before_told-append a b (Some rest) = ap Some (sym (append_assoc a b rest))
 
--- a read gave nothing, or it failed
-pub gave_none : (before now : Option (List ℕ)) → now ≡ before → before ≡ before_told [] now
-gave_none before now e = sym e ∙ sym (before_told-nil now)
-
 -- some bytes were given, and then more
 pub gave_more : (first second third : Option (List ℕ)) (a b : List ℕ) → first ≡ before_told a second → second ≡ before_told b third → first ≡ before_told (a ++ b) third
 gave_more first second third a b p q = p ∙ ap (before_told a) q ∙ before_told-append a b third
-
--- what was given is a prefix of what was left
-pub gave_prefix : (before now : Option (List ℕ)) (given : List ℕ) → before ≡ before_told given now → IfSome before (λ bytes. take (length given) bytes ≡ given)
-gave_prefix before None given e = rw e tt
-gave_prefix before (Some rest) given e = rw e (take_at given rest (length given) refl)
 
 -- where nothing is left in the end, all that was left was given
 pub gave_all : (before now : Option (List ℕ)) (given : List ℕ) → before ≡ before_told given now → IfSome now (λ rest. rest ≡ []) → IfSome before (λ bytes. bytes ≡ given)
 gave_all before None given e h = rw e tt
 gave_all before (Some rest) given e h = rw e (ap (λ (t : List ℕ). given ++ t) h ∙ append-nil given)
-
--- whether bytes are told doesn't change
-pub gave_tells : (before now : Option (List ℕ)) (given : List ℕ) → before ≡ before_told given now → is_some now ≡ is_some before
-gave_tells before None given e = rw e refl
-gave_tells before (Some rest) given e = rw e refl
 
 -- no byte after the told ones
 pub after_told-nil : (told : Option (List ℕ)) → after_told told [] ≡ told
@@ -51,24 +37,6 @@ after_told-append (Some held) a b = ap Some (append_assoc held a b)
 -- one piece was appended, and then another
 pub appended_more : (first second third : Option (List ℕ)) (a b : List ℕ) → second ≡ after_told first a → third ≡ after_told second b → third ≡ after_told first (a ++ b)
 appended_more first second third a b p q = q ∙ ap (λ (t : Option (List ℕ)). after_told t b) p ∙ after_told-append first a b
-
--- whether bytes are told doesn't change
-pub appended_tells : (before now : Option (List ℕ)) (piece : List ℕ) → now ≡ after_told before piece → is_some now ≡ is_some before
-appended_tells None now piece e = rw e refl
-appended_tells (Some held) now piece e = rw e refl
-
--- nothing is a prefix
-pub prefix_none : (before now : Option (List ℕ)) (piece : List ℕ) → now ≡ before → AppendsPrefix before now piece
-prefix_none before now piece e = (0, omega arith, e ∙ sym (after_told-nil before))
-
--- the whole is a prefix
-pub prefix_all : (before now : Option (List ℕ)) (piece : List ℕ) → now ≡ after_told before piece → AppendsPrefix before now piece
-prefix_all before now piece e = (length piece, omega arith, e ∙ ap (after_told before) (sym (take_all (length piece) piece (omega arith))))
-
--- a prefix of a piece is one of the piece and what comes after it
-pub prefix_longer : (before now : Option (List ℕ)) (a b : List ℕ) → AppendsPrefix before now a → AppendsPrefix before now (a ++ b)
-prefix_longer before now a b h =
-    (h.0, grind (arith, common_steps, h.1), h.2 ∙ ap (after_told before) (sym (take-append-le h.0 a b h.1)))
 
 -- a piece was appended, and then a prefix of the next
 pub prefix_after : (first second third : Option (List ℕ)) (a b : List ℕ) → second ≡ after_told first a → AppendsPrefix second third b → AppendsPrefix first third (a ++ b)

@@ -82,9 +82,6 @@ is_odd-crossings a b p w h = ap (λ n. eqb (n % 2) 1) (count_ones-bit_sum 12 (bi
 
 -- ---- crossings of lists end to end
 
-pub crossings-append_left : (xs ys zs : List ℕ) → crossings (xs ++ ys) zs ≡ crossings xs zs + crossings ys zs
-crossings-append_left xs ys zs = sum_by-append (λ x. count_by (λ y. ltb y x) zs) xs ys
-
 pub crossings-append_right : (xs ys zs : List ℕ) → crossings xs (ys ++ zs) ≡ crossings xs ys + crossings xs zs
 crossings-append_right [] ys zs = refl
 crossings-append_right (x ∷ xs) ys zs =

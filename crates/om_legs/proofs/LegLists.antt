@@ -50,17 +50,6 @@ Contains-legs_of set leg w = (
   (λ h. Contains-from_In (legs_of set) leg (in_filter (holds set) leg every_leg (let r = leg_range set leg w h in in_range 1 12 leg (omega arith) (let m = r.1 in omega arith)) h)),
 )
 
-rising_range : (a n : ℕ) → IsStrictlyIncreasing (range_with_len a n)
-rising_range a n k h =
-    let l = length-range_with_len a n in
-    let x = get_or-range_with_len a n k 0 (omega arith) in
-    let y = get_or-range_with_len a n (k + 1) 0 (omega arith) in
-    omega arith
-
-pub IsStrictlyIncreasing-legs_of : (set : ℕ) → IsStrictlyIncreasing (legs_of set)
-unfolding legs_of
-IsStrictlyIncreasing-legs_of set = IsStrictlyIncreasing-filter (holds set) every_leg (rising_range 1 12)
-
 -- ---- size
 
 -- a sum over the first n legs
@@ -71,11 +60,6 @@ leg_sum f (suc n) = leg_sum f n + f (suc n)
 pub sum_by-every_leg : (f : ℕ → ℕ) → sum_by f every_leg ≡ leg_sum f 12
 unfolding leg_sum
 sum_by-every_leg f = refl
-
-pub leg_sum_same : (f g : ℕ → ℕ) (n : ℕ) → ((k : ℕ) → k < n → f (suc k) ≡ g (suc k)) → leg_sum f n ≡ leg_sum g n
-unfolding leg_sum
-leg_sum_same f g zero h = refl
-leg_sum_same f g (suc n) h = ap₂ (λ x y. x + y) (leg_sum_same f g n (λ k l. h k (omega arith))) (h n (omega arith))
 
 bit_sum_halves : (x n : ℕ) → bit_sum x (suc n) ≡ x % 2 + bit_sum (x / 2) n
 unfolding bit_sum

@@ -30,9 +30,6 @@ shared_sum f set a b (suc n) h =
 pub sum_by-shares : (f : ℕ → ℕ) (set a b : ℕ) → AreShares set a b → sum_by f (legs_of set) ≡ sum_by f (legs_of a) + sum_by f (legs_of b)
 sum_by-shares f set a b h = sum_by-legs_of f set ∙ shared_sum f set a b 12 h ∙ sym (ap₂ (λ x y. x + y) (sum_by-legs_of f a) (sum_by-legs_of f b))
 
-pub crossings-shares_left : (set a b : ℕ) (ys : List ℕ) → AreShares set a b → crossings (legs_of set) ys ≡ crossings (legs_of a) ys + crossings (legs_of b) ys
-crossings-shares_left set a b ys h = sum_by-shares (λ x. count_by (λ y. ltb y x) ys) set a b h
-
 pub crossings-shares_right : (set a b : ℕ) (xs : List ℕ) → AreShares set a b → crossings xs (legs_of set) ≡ crossings xs (legs_of a) + crossings xs (legs_of b)
 crossings-shares_right set a b [] h = refl
 crossings-shares_right set a b (x ∷ xs) h =
@@ -58,10 +55,6 @@ pub size-empty : size 0 ≡ 0
 unfolding size
 size-empty = ap length legs_of-empty
 
-pub size-le-12 : (set : ℕ) → size set ≤ 12
-unfolding legs_of size
-size-le-12 set = let e = length-filter (holds set) every_leg in let l = count_by-le-length (holds set) every_leg in omega arith
-
 pub size_some : (set : ℕ) → 0 < set → IsLegSet set → 0 < size set
 unfolding size
 size_some set p w = let c = (Contains-legs_of set (least set) w).1 (holds-least set p w) in let l = c.1 in omega arith
@@ -73,15 +66,3 @@ subset_shares a b w h = AreShares-minus b a w (IsLegSet-subset a b h) h
 
 pub IsSubset_le : (a b : ℕ) → IsLegSet b → IsSubset a b → a ≤ b
 IsSubset_le a b w h = let s = sum_of_shares b (minus b a) a (subset_shares a b w h) in omega arith
-
-pub size_subset : (a b : ℕ) → IsLegSet b → IsSubset a b → size a ≤ size b
-size_subset a b w h = let s = size-shares b (minus b a) a (subset_shares a b w h) in omega arith
-
--- a subset that is not the whole set has fewer legs
-pub size_proper_subset : (a b : ℕ) → IsLegSet b → IsSubset a b → (a ≡ b → ⊥) → size a < size b
-size_proper_subset a b w h ne =
-    let shares = subset_shares a b w h in
-    let s = size-shares b (minus b a) a shares in
-    let n = sum_of_shares b (minus b a) a shares in
-    let some = size_some (minus b a) (omega arith) (IsLegSet-minus b a) in
-    omega arith

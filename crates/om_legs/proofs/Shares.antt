@@ -44,9 +44,6 @@ second_share set a b h = same_sets (minus set a) b (λ leg. holds-minus set a le
     by false false true e = absurd (omega arith)
     by false false false e = refl
 
-pub shares_turned : (set a b : ℕ) → AreShares set a b → AreShares set b a
-shares_turned set a b h = record { small = h.small; first = h.second; second = h.first; shared = λ leg. (let e = h.shared leg in omega arith) }
-
 pub first_held : (set a b leg : ℕ) → AreShares set a b → holds a leg ≡ true → holds set leg ≡ true
 first_held set a b leg h t = by (holds set leg) (holds a leg) (holds b leg) t (h.shared leg)
   where

@@ -95,9 +95,3 @@ module _ {E : Type 0} (o : Ops E) (l : Laws o) where
   mass-massive Scalar m w h e = tt
   mass-massive Dirac m w h e = tt
   mass-massive Vector m w h e = (h, inverse_gives m w (o.inverse m) e (l.inverts m))
-
-  -- and where it is 0
-  pub mass-massless : (s : Spin) (m w : E) → m ≡ o.zero → MassAgrees o s m w false
-  mass-massless Scalar m w e = tt
-  mass-massless Dirac m w e = tt
-  mass-massless Vector m w e = e
