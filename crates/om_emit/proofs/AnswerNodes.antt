@@ -1,6 +1,6 @@
 -- The waves of the nodes of a canonical graph are those that its code makes.
 use Rattle.std.proofs.Common.{◌≡◌, ℕ, zero, suc, ◌+◌, ◌-◌, ◌<◌, ◌≤◌, List, [], ◌∷◌, length, map, Bool, true, false, inl, inr, Some, refl, ap, ap₂, sym, subst, ◌∙◌, arith}
-use Rattle.std.specs.Prelude.{◌/◌, ◌%◌, ◌==◌, if◌then◌else◌, slice_get}
+use Rattle.std.specs.Prelude.{◌/◌, ◌%◌, ◌==◌, if◌then◌else◌, slice_get, unwrap_or}
 use Rattle.std.proofs.lemmas.Bool.{eqb-true}
 use Rattle.std.proofs.lemmas.Option.{same_Some}
 use mathlib.Core.Path.{fun_ext}
@@ -26,7 +26,7 @@ use Rattle.om_model.specs.Model.{anti_field, spin_of_field}
 use Rattle.om_model.specs.ModelLines.{kinds_of}
 use Rattle.om_model.specs.Parts.{others}
 use Rattle.om_model.specs.ProcessOf.{IsProcessOf}
-use Rattle.om_model.specs.Propagator.{EdgeName, denominator, value_or_zero}
+use Rattle.om_model.specs.Propagator.{EdgeName, denominator}
 use Rattle.om_model.specs.Theory.{Scattering}
 use Rattle.om_model.specs.TwoSided.{AreOpposite}
 use Rattle.om_model.specs.WellFormed.{IsWellFormed}
@@ -194,12 +194,12 @@ module _ {E : Type 0} (o : Ops E) (l : Laws o) (c : Code) (p : Process) (formed 
 
   -- the norm and the inverse denominator of the edge above a node
   abbrev factor_of : Key → E
-  factor_of k = o.times (rules.norm (k.field / 2)) (value_or_zero o rules event (o.inverse (denominator o rules event (name_of scattering (part_of k)))))
+  factor_of k = o.times (rules.norm (k.field / 2)) (unwrap_or (o.inverse (denominator o rules event (name_of scattering (part_of k)))) o.zero)
 
   factor-is : (k : Key) → In k g.nodes → is_inner k ≡ true → factor_at o c t e (slice_get c.dens (den_place c.model (length p.legs) g k)) ≡ factor_of k
   factor-is k i inner =
       ap (factor_at o c t e) (den_there k i inner)
-      ∙ ap₂ (λ row name. o.times (rules.norm row) (value_or_zero o rules event (o.inverse (denominator o rules event name)))) (row-is k) (name-is k i)
+      ∙ ap₂ (λ row name. o.times (rules.norm row) (unwrap_or (o.inverse (denominator o rules event name)) o.zero)) (row-is k) (name-is k i)
 
   module _ (made : IsMadeFor c e) (are : AreNodeWaves o scattering rules event g wave) where
     abbrev kind : ℕ → Kind

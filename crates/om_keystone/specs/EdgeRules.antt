@@ -1,11 +1,11 @@
 -- An edge by what a vertex sees of it: its name, and its propagator.
-use Rattle.std.specs.Prelude.{ℕ, ◌/◌, List, [], ◌∷◌, cond}
+use Rattle.std.specs.Prelude.{ℕ, ◌/◌, List, [], ◌∷◌, cond, unwrap_or}
 use Rattle.om_ring.specs.Ops.{Ops}
 use Rattle.om_model.specs.Theory.{Scattering}
 use Rattle.om_model.specs.Parts.{Part, others}
 use Rattle.om_model.specs.Event.{Event, members, momentum_of}
 use Rattle.om_model.specs.FeynmanRules.{FeynmanRules}
-use Rattle.om_model.specs.Propagator.{EdgeName, denominator, value_or_zero}
+use Rattle.om_model.specs.Propagator.{EdgeName, denominator}
 
 module _ (s : Scattering) where
   -- an edge, seen from its other end
@@ -29,4 +29,4 @@ module _ {E : Type 0} (o : Ops E) (s : Scattering) (r : FeynmanRules E) (e : Eve
   unfoldable pub propagator_of : Part → ℕ → ℕ → E
   propagator_of q i j =
       o.times (r.numerator q.field (momentum_of o e (members s.size q.behind)) (momentum_of o e (members s.size (others s.size q.behind))) i j)
-      (o.times (r.norm (q.field / 2)) (value_or_zero o r e (o.inverse (denominator o r e (name_of s q)))))
+      (o.times (r.norm (q.field / 2)) (unwrap_or (o.inverse (denominator o r e (name_of s q))) o.zero))

@@ -11,9 +11,5 @@ pub behind-push : {A : Type 0} (xs : List A) (x : A) (more : Result (List A) ℕ
 behind-push {A} xs x (Ok more) = ap (λ (ys : List A). let r : Result (List A) ℕ = Ok ys in r) (sym (append_assoc xs (x ∷ []) more))
 behind-push xs x (Err place) = refl
 
-pub behind-none : {A : Type 0} (more : Result (List A) ℕ) → behind [] more ≡ more
-behind-none (Ok more) = refl
-behind-none (Err place) = refl
-
 pub behind-all : {A : Type 0} (xs : List A) → behind xs (Ok []) ≡ Ok xs
 behind-all {A} xs = ap (λ (ys : List A). let r : Result (List A) ℕ = Ok ys in r) (append-nil xs)

@@ -87,9 +87,6 @@ leg_next chosen leg before line now count one h has some o e short i =
       short = omega (arith, i.short);
     }
 
-pub legs_none : (chosen : ℕ → Bool) (line : List ℕ) → LegsIn chosen 1 line line 0
-legs_none chosen line = record { text = sym (append-nil line); counted = refl; few = omega arith; short = omega arith }
-
 -- all legs
 pub legs_all : (set leg : ℕ) (before line : List ℕ) (count : ℕ) → 13 ≤ leg → leg ≤ 13 → LegsIn (holds set) leg before line count → line ≡ before ++ leg_set_word set
 unfolding legs_of

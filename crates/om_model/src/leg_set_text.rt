@@ -14,8 +14,11 @@ pub(crate) struct LegsRead {
     pub(crate) greatest: u8,
 }
 
-/// The most bytes of the text of a set of legs.
-pub const LEG_SET_BYTES: usize = 36;
+// The most bytes of the number of a leg.
+const LEG_BYTES: usize = 2;
+
+/// The most bytes of the text of a set of legs, each with a `+`.
+pub const LEG_SET_BYTES: usize = MOST_LEGS as usize * (LEG_BYTES + 1);
 
 /// The set of legs that a text means: its legs as decimals, rising, joined by `+`. None exactly where the text is no such set or
 /// names no leg.
@@ -50,10 +53,10 @@ pub fn push_leg_set(legs: LegSet, line: &mut Line)
 // Appends the number of a leg.
 #[tactic(auto, using(std::proofs::lemmas::Fmt::decimal_digit, om_colour::proofs::LegNumbers::decimal_two))]
 fn push_leg(leg: u8, line: &mut Line)
-    requires free { length line.old + 2 ≤ LINE_BYTES }
+    requires free { length line.old + LEG_BYTES ≤ LINE_BYTES }
     requires leg { leg < 100 }
     ensures text { line.new ≡ line.old ++ decimal leg }
-    ensures short { length line.new ≤ length line.old + 2 }
+    ensures short { length line.new ≤ length line.old + LEG_BYTES }
 {
     if leg < 10 {
         line.push(&[b'0' + leg]);

@@ -1,15 +1,18 @@
 //! The words of a term: what it makes, its sign, vertex and choice, and the nodes that meet there.
 ghost use Rattle.std.specs.Prelude.{◌≡◌, ◌+◌, ◌≤◌, ◌++◌, length};
 ghost use Rattle.om_ring.specs.declared.line.TheConstants.{LINE_BYTES, DECIMAL_BYTES};
-ghost use Rattle.om_model.specs.declared.term_text.TheConstants.{TERM_BYTES};
+ghost use Rattle.om_model.specs.declared.term_text.TheConstants.{BRANCHES_BYTES, TERM_BYTES};
 ghost use Rattle.om_model.specs.TermText.{branch_words, place_word, sign_word, spaced, term_words};
 ghost use Rattle.std.specs.List.{join_with_byte};
 
 use om_legs::Branches;
-use om_ring::Line;
+use om_ring::{DECIMAL_BYTES, Line};
 
-/// The most bytes of the words of a term.
-pub const TERM_BYTES: usize = 148;
+// The most bytes of the numbers of the nodes, each behind a space.
+const BRANCHES_BYTES: usize = 4 * (1 + DECIMAL_BYTES);
+
+/// The most bytes of the words of a term: what it makes, its sign, vertex and choice with spaces between, and the nodes.
+pub const TERM_BYTES: usize = DECIMAL_BYTES + 1 + 1 + 1 + DECIMAL_BYTES + 1 + DECIMAL_BYTES + BRANCHES_BYTES;
 
 /// Appends the words of a term with single spaces between: the number of what it makes, its sign,
 /// the number of its vertex, its choice, and the numbers of the nodes that meet there. Numbers count
@@ -54,9 +57,9 @@ fn sign_word(minus: bool) -> &'static [u8]
 
 // Appends each branch behind a space.
 fn push_branches(branches: &Branches, line: &mut Line)
-    requires free { length line.old + 84 ≤ LINE_BYTES }
+    requires free { length line.old + BRANCHES_BYTES ≤ LINE_BYTES }
     ensures text { line.new ≡ line.old ++ spaced (branch_words branches.now) }
-    ensures short { length line.new ≤ length line.old + 84 }
+    ensures short { length line.new ≤ length line.old + BRANCHES_BYTES }
 {
     for node in &branches.nodes[..usize::from(branches.count)] {
         line.push(b" ");

@@ -80,7 +80,3 @@ module _ {X A B F : Type 0} (read : ℕ → A → Result B F) (view : X → A) (
       ∙ ap (each_from read k) (map-append view (take i xs) (x ∷ drop (i + 1) xs))
       ∙ each_from-behind read k (map view (take i xs)) rest done before
       ∙ ap (behind done) next
-
-  -- all were read
-  pub all_read : (i : ℕ) (done : List B) → length xs ≤ i → IsRead i done → each_from read k (map view xs) ≡ Ok done
-  all_read i done h e = sym (ap (λ (ys : List X). each_from read k (map view ys)) (take_all i xs h)) ∙ e
