@@ -107,10 +107,7 @@ fn left_current() -> Wave<Elem> {
         b: Zp.number(0),
         c: Zp.number(0),
     };
-    let waves = [
-        Wave::Row(four(1, 0, 0, 0)),
-        Wave::Column(four(0, 0, 1, 0)),
-    ];
+    let waves = [Wave::Row(four(1, 0, 0, 0)), Wave::Column(four(0, 0, 1, 0))];
     let none = Place {
         wave: None,
         momentum: 0,
