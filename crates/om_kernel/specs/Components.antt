@@ -37,11 +37,11 @@ module _ {E : Type 0} (o : Ops E) where
 
   -- the same with the other sign
   abbrev pub opposite_dot : Four E → Four E → E
-  opposite_dot p q = p.x ⊗ q.x ⊕ (p.y ⊗ q.y ⊕ p.z ⊗ q.z) ⊕ ⊖ (p.t ⊗ q.t)
+  opposite_dot p q = (⊖ p.t) ⊗ q.t ⊕ (p.x ⊗ q.x ⊕ (p.y ⊗ q.y ⊕ p.z ⊗ q.z))
 
   -- the sum of the products of the components
   abbrev pub plain_dot : Four E → Four E → E
-  plain_dot p q = p.t ⊗ q.t ⊕ (p.x ⊗ q.x ⊕ (p.y ⊗ q.y ⊕ p.z ⊗ q.z))
+  plain_dot p q = (p.t ⊗ q.t ⊕ p.x ⊗ q.x) ⊕ (p.y ⊗ q.y ⊕ p.z ⊗ q.z)
 
   -- p + q
   abbrev pub plus_four : Four E → Four E → Four E
@@ -67,9 +67,9 @@ module _ {E : Type 0} (o : Ops E) where
   abbrev pub scaled_lower : E → Four E → Four E
   scaled_lower c p = record { t = c ⊗ p.t; x = (⊖ c) ⊗ p.x; y = (⊖ c) ⊗ p.y; z = (⊖ c) ⊗ p.z }
 
-  -- p + c q
+  -- c q + p
   abbrev pub along : E → Four E → Four E → Four E
-  along c p q = record { t = p.t ⊕ c ⊗ q.t; x = p.x ⊕ c ⊗ q.x; y = p.y ⊕ c ⊗ q.y; z = p.z ⊕ c ⊗ q.z }
+  along c p q = record { t = c ⊗ q.t ⊕ p.t; x = c ⊗ q.x ⊕ p.x; y = c ⊗ q.y ⊕ p.y; z = c ⊗ q.z ⊕ p.z }
 
   -- c (a + b gamma5) times a column, or a row times it
   abbrev pub chiral : E → Factors E → Four E → Four E

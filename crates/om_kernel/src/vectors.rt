@@ -18,11 +18,9 @@ fn space_dot<R: Ring<Mark = L>, L>(
         result ≡ o.plus (o.times p.now.x q.now.x) (o.plus (o.times p.now.y q.now.y) (o.times p.now.z q.now.z)) }
     ensures at_most { steps.new ≤ steps.old + 5 * R.cost ring.now }
 {
-    let x = ring.mul(p.x, q.x, steps);
-    let y = ring.mul(p.y, q.y, steps);
     let z = ring.mul(p.z, q.z, steps);
-    let yz = ring.add(y, z, steps);
-    ring.add(x, yz, steps)
+    let yz = ring.multiply_add(p.y, q.y, z, steps);
+    ring.multiply_add(p.x, q.x, yz, steps)
 }
 
 /// p0 q0 - p1 q1 - p2 q2 - p3 q3.
@@ -36,10 +34,9 @@ pub(crate) fn dot<R: Ring<Mark = L>, L>(
     ensures value { result ≡ dot (R.ops ring.now) p.now q.now }
     ensures at_most { steps.new ≤ steps.old + 8 * R.cost ring.now }
 {
-    let time = ring.mul(p.t, q.t, steps);
     let space = space_dot(ring, p, q, steps);
     let back = ring.neg(space, steps);
-    ring.add(time, back, steps)
+    ring.multiply_add(p.t, q.t, back, steps)
 }
 
 /// The same with the other sign.
@@ -53,10 +50,9 @@ pub(crate) fn opposite_dot<R: Ring<Mark = L>, L>(
     ensures value { result ≡ opposite_dot (R.ops ring.now) p.now q.now }
     ensures at_most { steps.new ≤ steps.old + 8 * R.cost ring.now }
 {
-    let time = ring.mul(p.t, q.t, steps);
     let space = space_dot(ring, p, q, steps);
-    let back = ring.neg(time, steps);
-    ring.add(space, back, steps)
+    let back = ring.neg(p.t, steps);
+    ring.multiply_add(back, q.t, space, steps)
 }
 
 /// The sum of the products of the components, for an index that stands above once and below once.
@@ -70,9 +66,7 @@ pub(crate) fn plain_dot<R: Ring<Mark = L>, L>(
     ensures value { result ≡ plain_dot (R.ops ring.now) p.now q.now }
     ensures at_most { steps.new ≤ steps.old + 7 * R.cost ring.now }
 {
-    let time = ring.mul(p.t, q.t, steps);
-    let space = space_dot(ring, p, q, steps);
-    ring.add(time, space, steps)
+    ring.dot4(p.t, q.t, p.x, q.x, p.y, q.y, p.z, q.z, steps)
 }
 
 /// p + q.
@@ -211,6 +205,10 @@ pub(crate) fn along<R: Ring<Mark = L>, L>(
     ensures value { result ≡ along (R.ops ring.now) c p.now q.now }
     ensures at_most { steps.new ≤ steps.old + 8 * R.cost ring.now }
 {
-    let part = scaled(ring, c, q, steps);
-    plus_four(ring, p, &part, steps)
+    Four {
+        t: ring.multiply_add(c, q.t, p.t, steps),
+        x: ring.multiply_add(c, q.x, p.x, steps),
+        y: ring.multiply_add(c, q.y, p.y, steps),
+        z: ring.multiply_add(c, q.z, p.z, steps),
+    }
 }
