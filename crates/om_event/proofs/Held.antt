@@ -1,7 +1,9 @@
 -- The bytes that a reader holds.
 use Rattle.std.proofs.Common.{◌≡◌, ℕ, ◌+◌, ◌-◌, ◌≤◌, List, ◌++◌, [], length, take, drop, length-take, Option, Some, None, refl, ap, sym, ◌∙◌, min, arith, nat_eq, true}
 use Rattle.std.proofs.Math.Seq.{take-add}
+use Rattle.std.specs.List.{copy_within}
 use Rattle.std.proofs.lemmas.Bool.{eq-eqb}
+use Rattle.std.proofs.lemmas.List.Edits.{take-paste}
 use Rattle.std.proofs.lemmas.List.Folds.{prefix_len-append}
 use Rattle.om_event.specs.Fronts.{in_line, line_len}
 use Rattle.std.proofs.lemmas.List.{take-take, take-append-drop, drop-append-le, append_assoc, drop_all, drop-take, drop-drop, take_all, length-drop}
@@ -73,3 +75,11 @@ pub tail_of : (seen n : ℕ) (shown bytes : List ℕ) → shown ≡ bytes → n 
     → n ≡ line_len (drop seen bytes)
 tail_of seen n shown bytes e h = h
     ∙ ap line_len (take_all (length shown - seen) (drop seen shown) (let l : length (drop seen shown) ≡ length shown - seen = length-drop seen shown in omega (arith, l))) ∙ ap (λ (t : List ℕ). line_len (drop seen t)) e
+
+-- bytes that were copied to the front
+pub copied_front : (hold : List ℕ) (start end : ℕ) → start ≤ end → end ≤ length hold
+    → take (end - start) (copy_within hold start end 0) ≡ take (end - start) (drop start hold)
+copied_front hold start end h g =
+    let all : 0 + (end - start) ≡ end - start = omega arith in
+    ap (λ (k : ℕ). take k (copy_within hold start end 0)) (sym all)
+    ∙ take-paste hold 0 (drop start hold) (end - start) (omega arith) (let l = length-drop start hold in omega (arith, l, h, g))

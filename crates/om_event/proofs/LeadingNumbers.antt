@@ -1,27 +1,24 @@
 -- Numbers at the front of a line.
-use Rattle.std.proofs.Common.{◌≡◌, ℕ, suc, ◌+◌, ◌-◌, ◌≤◌, ◌<◌, ◌^◌, nat_eq, bytes_eq, decimal, false, List, [], ◌∷◌, ◌++◌, length, take, drop, get_or, refl, ap, sym, ◌∙◌, arith, inl, inr}
+use Rattle.std.proofs.Common.{◌≡◌, ℕ, suc, ◌+◌, ◌-◌, ◌*◌, ◌≤◌, ◌<◌, ◌^◌, nat_eq, bytes_eq, decimal, Bool, true, false, List, [], ◌∷◌, ◌++◌, length, take, drop, get_or, slice_index_or, refl, ap, sym, subst, ◌∙◌, arith, inl, inr}
 use Rattle.std.specs.Prelude.{Ok}
 use Rattle.std.specs.List.{prefix_len}
-use Rattle.std.proofs.lemmas.Bool.{cases_Bool, eqb-true, eq-eqb}
+use Rattle.std.proofs.Math.Seq.{take-add}
+use Rattle.std.proofs.lemmas.Bool.{cases_Bool, eqb-true}
 use Rattle.std.proofs.lemmas.Bool.Decides.{nat_tests}
-use Rattle.std.proofs.lemmas.List.{append-nil, length-append, take-append-drop, take_all, length-drop, length-take-le, get_or-take, drop_more}
-use Rattle.std.proofs.lemmas.Slice.Eq.{bytes_eq-Decides}
-use Rattle.om_ring.specs.Ops.{Ops, Laws, number_of}
-use Rattle.om_ring.specs.Numerals.{AllDigits, digits_value}
-use Rattle.om_ring.specs.NumeralOf.{numeral_of}
+use Rattle.std.proofs.lemmas.List.{append-nil, append_assoc, length-append, take-append-drop, take_all, length-drop, length-take-le, get_or-take}
+use Rattle.om_ring.specs.Numerals.{AllDigits, NumeralFits, digits_value, digits_value_from, mark_text, numeral_text, shown_den, sign_text}
 use Rattle.om_ring.specs.declared.numeral.Numeral.{Numeral}
-use Rattle.om_ring.proofs.NumeralTexts.{IsDigits-decimal, all_digits, decimal-digits_value_of, numeral_of-shown}
-use Rattle.om_ring.proofs.ProductLemmas.{quotient-one}
+use Rattle.om_ring.proofs.NumeralTexts.{IsDigits-decimal, all_digits, decimal-digits_value_of}
 use Rattle.om_event.specs.Fronts.{line_len}
 use Rattle.om_event.specs.Pieces.{in_piece, front_piece, behind_piece}
-use Rattle.om_event.specs.Lines.{value_in, leg_in, wave_size}
-use Rattle.om_event.specs.LineScan.{number_at, numbers_in}
-use Rattle.om_event.specs.LineFronts.{line_of, spaces, Leads, Closes, FourLeads, WaveCloses, IsReadLeg}
-use Rattle.om_event.proofs.LineReads.{no_length, numbered}
-use Rattle.om_event.specs.declared.kind.WaveKind.{WaveKind}
-use Rattle.om_event.specs.declared.limits.TheConstants.{MOST_LINE_BYTES}
+use Rattle.om_event.specs.LineFronts.{line_of, spaces}
+use Rattle.om_event.specs.Written.{number_before, four_before, leg_before, wave_before, IsWritten}
 use Rattle.om_lorentz.specs.declared.vectors.Four.{Four}
 use Rattle.om_kernel.specs.declared.waves.Wave.{Wave}
+use Rattle.om_kernel.specs.declared.waves.Wave.TheVariants as wave
+use Rattle.om_event.specs.declared.line.Leg.{Leg}
+use Rattle.om_event.proofs.EightDigits.{first_eight}
+use Rattle.om_event.proofs.LineReads.{no_length}
 
 -- neither a space nor a line feed
 abbrev pub Solid : List ℕ → Type 0
@@ -96,70 +93,84 @@ decimal_of_digits (c ∷ cs) n d e h some lead = sym (ap decimal e ∙ decimal-d
   | inr z ↦ inr ((grind (arith, nat_tests), d.0.1), d.1)
 ]) (omega (arith, e, h)))
 
--- the decimal at the front of a text, before a byte
-pub decimal_at : (text : List ℕ) (n k stop : ℕ) → AllDigits (take k text) → n ≡ digits_value (take k text) → n < 2 ^ 64 → k < length text
-    → (0 < k) × (get_or text 0 0 ≡ 48 → k ≡ 1) → get_or text k 0 ≡ stop → text ≡ decimal n ++ stop ∷ take (length text - (k + 1)) (drop (k + 1) text)
-decimal_at text n k stop d e h within lead at =
+-- what stands behind the first bytes
+pub rest_of : (text : List ℕ) (k : ℕ) → take (length text - k) (drop k text) ≡ drop k text
+rest_of text k = take_all _ _ (let l = length-drop k text in omega (arith, l))
+
+-- the decimal at the front of a text
+pub decimal_at : (text : List ℕ) (n k : ℕ) → AllDigits (take k text) → n ≡ digits_value (take k text) → n < 2 ^ 64 → k < length text
+    → (0 < k) × (get_or text 0 0 ≡ 48 → k ≡ 1) → text ≡ decimal n ++ take (length text - k) (drop k text)
+decimal_at text n k d e h within lead =
     let size : length (take k text) ≡ k = length-take-le k text (omega (arith, within)) in
     let first : get_or (take k text) 0 0 ≡ get_or text 0 0 = get_or-take k text 0 0 lead.0 in
-    let rest : take (length text - (k + 1)) (drop (k + 1) text) ≡ drop (k + 1) text = take_all _ _ (let l = length-drop (k + 1) text in omega (arith, l)) in
     let c = decimal_of_digits (take k text) n d e h (omega (arith, size, lead.0)) (λ z. size ∙ lead.1 (sym first ∙ z)) in
-    sym (take-append-drop k text) ∙ ap (λ (t : List ℕ). t ++ drop k text) c ∙ ap (λ (t : List ℕ). decimal n ++ t) (drop_more text k 0 within ∙ ap (λ (b : ℕ). b ∷ drop (k + 1) text) at ∙ ap (λ (t : List ℕ). stop ∷ t) (sym rest))
+    sym (take-append-drop k text) ∙ ap (λ (t : List ℕ). t ++ drop k text) c ∙ ap (λ (t : List ℕ). decimal n ++ t) (sym (rest_of text k))
 
-module _ {E : Type 0} (o : Ops E) (l : Laws o) where
-  -- the value of a decimal
-  pub value_in-decimal : (n : ℕ) → n < 2 ^ 64 → value_in o (decimal n) ≡ Ok (number_of o n)
-  unfolding value_in
-  value_in-decimal n h =
-      let x : Numeral = record { neg = false; num = n; den = 1; imag = false; den_positive = omega arith } in
-      let r : numeral_of (decimal n) ≡ Ok x = ap numeral_of (sym (append-nil (decimal n))) ∙ numeral_of-shown x h (omega arith) in
-      rw r (rw (quotient-one o l n) refl)
+AllDigits-append : (xs ys : List ℕ) → AllDigits xs → AllDigits ys → AllDigits (xs ++ ys)
+AllDigits-append [] ys p q = q
+AllDigits-append (x ∷ xs) ys p q = (p.0, AllDigits-append xs ys p.1 q)
 
-  -- a decimal leads a line
-  pub leads : (text rest : List ℕ) (n : ℕ) (x : E) → n < 2 ^ 64 → text ≡ decimal n ++ 32 ∷ rest → x ≡ number_of o n → Leads o text x rest
-  unfolding number_at
-  leads text rest n x h e v =
-      let s = digits_solid (decimal n) (all_digits (decimal n) (IsDigits-decimal n h)) in
-      let k : line_of text ≡ decimal n ++ 32 ∷ line_of rest = ap line_of e ∙ line-leading (decimal n) rest s in
-      record {
-        read = ap (number_at o) k ∙ rw (front-leading (decimal n) (line_of rest) s, behind-leading (decimal n) (line_of rest) s, value_in-decimal n h, v) refl;
-        spaces = ap spaces k ∙ spaces-leading (decimal n) (line_of rest) s;
-        len = (let a = ap line_len e ∙ len-leading (decimal n) rest s in let b = ap length e ∙ length-append (decimal n) (32 ∷ rest) in omega (arith, a, b));
-      }
+digits_value_from-append : (n : ℕ) (xs ys : List ℕ) → digits_value_from n (xs ++ ys) ≡ digits_value_from (digits_value_from n xs) ys
+digits_value_from-append n [] ys = refl
+digits_value_from-append n (x ∷ xs) ys = digits_value_from-append (10 * n + (x - 48)) xs ys
 
-  -- a decimal is a line
-  pub closes : (text rest : List ℕ) (n : ℕ) (x : E) → n < 2 ^ 64 → text ≡ decimal n ++ 10 ∷ rest → x ≡ number_of o n → Closes o text x rest
-  unfolding number_at
-  closes text rest n x h e v =
-      let s = digits_solid (decimal n) (all_digits (decimal n) (IsDigits-decimal n h)) in
-      let k : line_of text ≡ decimal n = ap line_of e ∙ line-closing (decimal n) rest s in
-      record {
-        read = ap (number_at o) k ∙ rw (front-closing (decimal n) s, behind-closing (decimal n) s, value_in-decimal n h, v) refl;
-        spaces = ap spaces k ∙ spaces-closing (decimal n) s;
-        len = (let a = ap line_len e ∙ len-closing (decimal n) rest s in let b = ap length e ∙ length-append (decimal n) (10 ∷ rest) in omega (arith, a, b));
-      }
+-- digits, and more behind them
+pub digits_more : (text : List ℕ) (k m : ℕ) → AllDigits (take k text) → AllDigits (take m (drop k text)) → AllDigits (take (k + m) text)
+digits_more text k m p q = subst AllDigits (sym (take-add k m text)) (AllDigits-append (take k text) (take m (drop k text)) p q)
 
-module _ {E : Type 0} (o : Ops E) where
-  -- the line of a leg that is read from its front
-  pub leg_read : (kind : WaveKind) (k n len : ℕ) (text numerals waves rest : List ℕ) (p : Four E) (w : Wave E) → n < 2 ^ 64
-      → text ≡ decimal n ++ 32 ∷ numerals → n ≡ k → FourLeads o numerals p waves → WaveCloses o kind waves w rest
-      → len ≡ length text - length rest - 1 → len ≤ MOST_LINE_BYTES → IsReadLeg o kind k text (record { momentum = p; wave = w }) len
-  unfolding line_of spaces numbers_in
-  leg_read kind k n len text numerals waves rest p w h e same four wave l few =
-      let s = digits_solid (decimal n) (all_digits (decimal n) (IsDigits-decimal n h)) in
-      let j : line_of text ≡ decimal n ++ 32 ∷ line_of numerals = ap line_of e ∙ line-leading (decimal n) numerals s in
-      let a = ap line_len e ∙ len-leading (decimal n) numerals s in
-      let b = ap length e ∙ length-append (decimal n) (32 ∷ numerals) in
-      let size : len ≡ line_len text = omega (arith, a, b, l, four.len, wave.len) in
-      let spaced = ap spaces j ∙ spaces-leading (decimal n) (line_of numerals) s in
-      let front : front_piece (line_of text) ≡ decimal k = ap front_piece j ∙ front-leading (decimal n) (line_of numerals) s ∙ ap decimal same in
-      let behind : behind_piece (line_of text) ≡ line_of numerals = ap behind_piece j ∙ behind-leading (decimal n) (line_of numerals) s in
-      let count : 4 + wave_size kind ≡ spaces (line_of text) = omega (arith, spaced, four.spaces, wave.spaces) in
-      record {
-        read = ap (λ m. leg_in o kind k (take m text)) size
-            ∙ numbered o kind k (4 + wave_size kind) (line_of text) count (eq-eqb _ _ refl) (ap (λ t. bytes_eq t (decimal k)) front ∙ (bytes_eq-Decides (decimal k) (decimal k)).1 refl)
-            ∙ ap (numbers_in o kind) behind ∙ rw (four.read) (rw (wave.read) refl);
-        len = size;
-        few = few;
-        more = omega (arith, b, size, a, four.len, wave.len);
-      }
+pub value_more : (text : List ℕ) (k m : ℕ) → digits_value (take (k + m) text) ≡ digits_value_from (digits_value (take k text)) (take m (drop k text))
+value_more text k m = ap digits_value (take-add k m text) ∙ digits_value_from-append 0 (take k text) (take m (drop k text))
+
+eight_from : (n a b c d e f g h : ℕ) → 10 * (10 * (10 * (10 * (10 * (10 * (10 * (10 * n + a) + b) + c) + d) + e) + f) + g) + h
+    ≡ n * 100000000 + (10 * (10 * (10 * (10 * (10 * (10 * (10 * (10 * 0 + a) + b) + c) + d) + e) + f) + g) + h)
+eight_from n a b c d e f g h = omega arith
+
+-- eight digits behind a number
+pub value_of_more : (n : ℕ) (text : List ℕ) → 8 ≤ length text → digits_value_from n (take 8 text) ≡ n * 100000000 + digits_value (take 8 text)
+value_of_more n text l = rw (first_eight text l) (eight_from n (slice_index_or text 0 0 - 48) (slice_index_or text 1 0 - 48) (slice_index_or text 2 0 - 48) (slice_index_or text 3 0 - 48) (slice_index_or text 4 0 - 48) (slice_index_or text 5 0 - 48) (slice_index_or text 6 0 - 48) (slice_index_or text 7 0 - 48))
+
+-- the parts of a numeral, and what follows it
+pub numeral_joined : (neg imag : Bool) (num den stop : ℕ) (text unsigned behind_num behind_den behind rest : List ℕ) (x : Numeral)
+    → text ≡ sign_text neg ++ unsigned → unsigned ≡ decimal num ++ behind_num → behind_num ≡ shown_den den ++ behind_den → behind_den ≡ mark_text imag ++ behind
+    → behind ≡ stop ∷ rest → x.neg ≡ neg → x.num ≡ num → x.den ≡ den → x.imag ≡ imag → text ≡ number_before x stop rest
+numeral_joined neg imag num den stop text unsigned behind_num behind_den behind rest x a b c d e p q r s =
+    let whole : text ≡ sign_text neg ++ (decimal num ++ (shown_den den ++ (mark_text imag ++ stop ∷ rest))) = a
+    ∙ ap (λ (t : List ℕ). sign_text neg ++ t) (b ∙ ap (λ (t : List ℕ). decimal num ++ t) (c ∙ ap (λ (t : List ℕ). shown_den den ++ t) (d ∙ ap (λ (t : List ℕ). mark_text imag ++ t) e))) in
+    rw (p, q, r, s) (whole ∙ sym (append_assoc (sign_text neg) (decimal num ++ (shown_den den ++ mark_text imag)) (stop ∷ rest)
+    ∙ ap (λ (t : List ℕ). sign_text neg ++ t) (append_assoc (decimal num) (shown_den den ++ mark_text imag) (stop ∷ rest)
+    ∙ ap (λ (t : List ℕ). decimal num ++ t) (append_assoc (shown_den den) (mark_text imag) (stop ∷ rest)))))
+
+-- the parts of a line, and what follows it
+pub leg_joined : (k n : ℕ) (text behind_number numerals waves rest : List ℕ) (leg : Leg Numeral) → text ≡ decimal n ++ behind_number → n ≡ k
+    → behind_number ≡ 32 ∷ numerals → numerals ≡ four_before leg.momentum 32 waves → waves ≡ wave_before leg.wave rest → text ≡ leg_before k leg rest
+leg_joined k n text behind_number numerals waves rest leg e same a b c =
+    e ∙ ap (λ (t : List ℕ). decimal n ++ t) (a ∙ ap (λ (t : List ℕ). 32 ∷ t) (b ∙ ap (four_before leg.momentum 32) c))
+    ∙ ap (λ (m : ℕ). decimal m ++ 32 ∷ four_before leg.momentum 32 (wave_before leg.wave rest)) same
+
+-- what follows is shorter
+number_shorter : (x : Numeral) (stop : ℕ) (rest : List ℕ) → length rest < length (number_before x stop rest)
+number_shorter x stop rest = (let l = length-append (numeral_text x) (stop ∷ rest) in omega (arith, l))
+
+four_shorter : (p : Four Numeral) (stop : ℕ) (rest : List ℕ) → length rest < length (four_before p stop rest)
+four_shorter p stop rest =
+    let z = number_before p.z stop rest in
+    let y = number_before p.y 32 z in
+    let x = number_before p.x 32 y in
+    let a = number_shorter p.t 32 x in
+    let b = number_shorter p.x 32 y in
+    let c = number_shorter p.y 32 z in
+    let d = number_shorter p.z stop rest in
+    omega (arith, a, b, c, d)
+
+wave_shorter : (w : Wave Numeral) (rest : List ℕ) → length rest < length (wave_before w rest)
+wave_shorter (wave.Scalar x) rest = number_shorter x 10 rest
+wave_shorter (wave.Row p) rest = four_shorter p 10 rest
+wave_shorter (wave.Column p) rest = four_shorter p 10 rest
+wave_shorter (wave.Vector p) rest = four_shorter p 10 rest
+
+pub leg_shorter : (k : ℕ) (leg : Leg Numeral) (rest : List ℕ) → length rest + 1 ≤ length (leg_before k leg rest)
+leg_shorter k leg rest =
+    let a = wave_shorter leg.wave rest in
+    let b = four_shorter leg.momentum 32 (wave_before leg.wave rest) in
+    let c = length-append (decimal k) (32 ∷ four_before leg.momentum 32 (wave_before leg.wave rest)) in
+    omega (arith, a, b, c)

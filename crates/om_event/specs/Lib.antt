@@ -5,5 +5,6 @@ pub mod LineScan
 pub mod Events
 pub mod Fronts
 pub mod LineFronts
+pub mod Written
 pub mod Next
 pub mod Laws

@@ -7,6 +7,7 @@ ghost use Rattle.om_event.specs.Fronts.{line_len};
 ghost use Rattle.om_event.specs.Next.{Stands, NoneLeft};
 ghost use Rattle.om_event.specs.declared.limits.TheConstants.{MOST_HELD_BYTES, MOST_LINE_BYTES};
 
+use crate::waited::Waited;
 use crate::{MOST_HELD_BYTES, MOST_LINE_BYTES};
 use om_io::{Failed, Source};
 use std::marker::Model;
@@ -28,18 +29,6 @@ impl Model for Hold {
     ghost view = { λ h. take (h.end - h.start) (drop h.start h.buffer) };
 
     ghost invariant = { λ h. (h.start ≤ h.end) × (h.end ≤ MOST_HELD_BYTES) };
-}
-
-// What stands at the front of the bytes held.
-pub(crate) enum Waited {
-    // A whole line of so many bytes.
-    Line(usize),
-    // More bytes than a line has, and no line feed.
-    TooLong,
-    // Less than a line, and the input has ended.
-    Ended,
-    // Less than a line, and the input has failed.
-    Failed,
 }
 
 impl Hold {
@@ -82,18 +71,18 @@ impl Hold {
         ensures end { IfOk result (λ n. n ≡ 0 → NoneLeft (S.left input.old)) }
         ensures cause { HasCause (S.faults input.old) (S.faults input.new) result }
     {
-        let len = self.bytes().len();
-        let mut next = moved(self.bytes());
-        let count = read_behind(input, &mut next, len)?;
-        self.buffer = next;
+        let len = self.end - self.start;
+        to_front(&mut self.buffer, self.start, self.end);
         self.start = 0;
+        self.end = len;
+        let count = read_behind(input, &mut self.buffer, len)?;
         self.end = len + count;
         Ok(count)
     }
 
     // Reads until a line stands at the front, or can't come. Each byte is looked at once.
     #[tactic(auto, using(crate::proofs::Held::none_came, crate::proofs::Held::starts_more, crate::proofs::Held::came_more, crate::proofs::Held::longer_line))]
-    pub(crate) fn wait_for_line<S: Source>(&mut self, input: &mut S) -> Waited
+    pub(crate) fn wait_for_line<S: Source>(&mut self, input: &mut S) -> Waited<usize>
         ensures more { StartsWith self.new self.old }
         ensures left { S.left input.old ≡ before_told (appended_bytes self.old self.new) (S.left input.new) }
         ensures stands { Stands self.new result }
@@ -127,14 +116,15 @@ fn feed_place(bytes: &[u8]) -> usize
     bytes.iter().take_while(|b| **b != b'\n').count()
 }
 
-// The bytes at the front of a buffer.
-fn moved(held: &[u8]) -> [u8; MOST_HELD_BYTES]
-    requires { length held.now ≤ MOST_HELD_BYTES }
-    ensures { take (length held.now) result ≡ held.now }
+// Moves some bytes of a buffer to its front.
+#[tactic(auto, using(crate::proofs::Held::copied_front))]
+fn to_front(buffer: &mut [u8], start: usize, end: usize)
+    requires ordered { start ≤ end }
+    requires within { end ≤ length buffer.old }
+    ensures same { take (end - start) buffer.new ≡ take (end - start) (drop start buffer.old) }
+    ensures len { length buffer.new ≡ length buffer.old }
 {
-    let mut next = [0u8; MOST_HELD_BYTES];
-    next[..held.len()].copy_from_slice(held);
-    next
+    buffer.copy_within(start..end, 0);
 }
 
 // Reads into what stands behind the first bytes of a buffer.

@@ -4,6 +4,8 @@
 #![tactic(auto)]
 
 mod cause;
+mod digits;
+mod eights;
 mod front;
 mod hold;
 mod kind;
@@ -16,6 +18,9 @@ mod reader;
 mod test_code;
 #[cfg(test)]
 mod tests;
+mod value;
+mod waited;
+mod written;
 
 pub use cause::Cause;
 pub use kind::WaveKind;

@@ -7,4 +7,4 @@ pub const MOST_LINE_BYTES: usize = 511;
 pub const MOST_EVENTS: u32 = 1_000_000;
 
 /// The most bytes that a reader holds, more than a line has.
-pub const MOST_HELD_BYTES: usize = 4096;
+pub const MOST_HELD_BYTES: usize = 65536;

@@ -6,11 +6,12 @@ ghost use Rattle.om_io.specs.Causes.{Rose};
 ghost use Rattle.om_event.specs.Kinds.{AreKindsOf, HasKinds};
 ghost use Rattle.om_event.specs.Next.{Stays, Gives, GivesEnd, GivesEvent, AtEnd};
 ghost use Rattle.om_event.specs.declared.limits.TheConstants.{MOST_EVENTS};
+ghost use Rattle.om_legs.specs.declared.leg_set.TheConstants.{MOST_LEGS};
 
-use crate::front::leg_at_front;
-use crate::hold::{Hold, Waited};
+use crate::front::ReadLine;
+use crate::hold::Hold;
 use crate::kind::kind_of_field;
-use crate::line::read_leg;
+use crate::waited::{Waited, next_line};
 use crate::{Cause, MOST_EVENTS, WaveKind};
 use om_code::Code;
 use om_io::{Failed, Source};
@@ -166,7 +167,7 @@ fn read_event<R: Ring<Mark = L>, S: Source, L>(
     steps: &mut Steps<L>,
 ) -> Next
     requires some { 1 ≤ length kinds.now }
-    requires few { length kinds.now ≤ 12 }
+    requires few { length kinds.now ≤ MOST_LEGS }
     requires made { HasKinds kinds.now event.old }
     ensures made { HasKinds kinds.now event.new }
     ensures gives { (came : List ℕ) × (S.left input.old ≡ before_told came (S.left input.new))
@@ -181,15 +182,9 @@ fn read_event<R: Ring<Mark = L>, S: Source, L>(
     for kind in kinds {
         let before = leg;
         leg += 1;
-        let held = hold.bytes();
-        if let Some(front) = leg_at_front(ring, *kind, leg, held) {
-            event.set(leg, front.leg.momentum, front.leg.wave);
-            hold.drop_front(front.len + 1);
-            continue;
-        }
-        match hold.wait_for_line(input) {
-            Waited::Line(len) => {
-                match read_leg(ring, *kind, leg, &hold.bytes()[..len], steps) {
+        match next_line(ring, *kind, leg, hold, input, steps) {
+            Waited::Line(ReadLine { leg: said, len }) => {
+                match said {
                     Ok(read) => event.set(leg, read.momentum, read.wave),
                     Err(cause) => return Next::Bad {
                         event: number,

@@ -1,9 +1,0 @@
-use Rattle.std.proofs.Common.{◌≡◌, take}
-use Rattle.om_ring.specs.Numerals.{AllDigits, digits_value}
-use Rattle.om_event.proofs.front.digits_at_front.Given as goal
-
-abbrev pub invariant-loop-len : goal.invariant-loop-len
-invariant-loop-len l = record {
-  value_is : l.value ≡ digits_value (take l.len l.text);
-  all_digits : AllDigits (take l.len l.text);
-}
