@@ -1,17 +1,20 @@
 -- Signs stay while nodes and terms are added.
-use Rattle.std.proofs.Common.{◌≡◌, ℕ, ◌<◌, List, [], ◌∷◌, ◌++◌, length, get_or, ◌⊎◌, inl, inr, ap, sym, subst, ◌∙◌, slice_get, append-nil, append_assoc}
-use Rattle.std.specs.Prelude.{All}
+use Rattle.std.proofs.Common.{◌≡◌, ℕ, ◌<◌, List, [], ◌∷◌, ◌++◌, length, get_or, ◌⊎◌, inl, inr, ap, sym, subst, ◌∙◌, slice_get, append-nil, append_assoc, Result, Ok, Err}
+use Rattle.std.specs.Prelude.{All, OnOk}
+use Rattle.om_ring.specs.declared.list.NoMemory.{NoMemory}
 use Rattle.om_ring.specs.Members.{In}
 use Rattle.om_graph.specs.declared.Key.{Key}
 use Rattle.om_graph.specs.declared.KeyTerm.{KeyTerm}
 use Rattle.om_graph.specs.declared.Term.{Term}
+use Rattle.om_graph.specs.declared.chosen.Chosen.{Chosen}
 use Rattle.om_graph.specs.declared.closings.Closed.{Closed}
+use Rattle.om_graph.specs.declared.key_terms.Row.{Row}
 use Rattle.om_graph.specs.declared.fusions.Fused.{Fused}
 use Rattle.om_graph.specs.Graph.{Found, at_numbers}
 use Rattle.om_graph.specs.Loops.{chosen_nodes}
 use Rattle.om_graph.specs.Possible.{key_lt, nodes_at, state_of}
 use Rattle.om_graph.specs.Search.{State, add, interned, place}
-use Rattle.om_graph.specs.SetWalk.{HasClosedSign, HasFoundSign, HasKeySign, HasTermSign, HaveSigns, KeysHaveSigns}
+use Rattle.om_graph.specs.SetWalk.{HasClosedSign, HasFoundSign, HasKeySign, HasRowSign, HasTermSign, HaveSigns, KeysHaveSigns, RowsHaveSigns}
 use Rattle.om_graph.specs.Vertices.{Reaction, closed_minus, fused_minus}
 use Rattle.om_graph.proofs.Adding.{in_interned, interned_grows}
 use Rattle.om_ring.proofs.Members.{in_either}
@@ -56,9 +59,22 @@ module _ (r : Reaction) where
       by (inr (inl q)) = subst (HasTermSign r ms) (sym q) here
       by (inr (inr f)) = absurd f
 
+  -- one row more
+  pub row_signs : (ns : List Key) (ys zs : List Row) (t : Row) (x : Closed) → zs ≡ ys ++ t ∷ [] → t.branches ≡ x.branches → t.vertex ≡ x.vertex → t.minus ≡ x.minus
+      → RowsHaveSigns r ns ys → HasClosedSign r ns x → RowsHaveSigns r ns zs
+  row_signs ns ys zs t x g b v m old new y i = by (in_either y ys (t ∷ []) (subst (In y) g i))
+    where
+      here : HasRowSign r ns t
+      here = (new.0, ap (λ (a : Chosen). at_numbers ns (chosen_nodes a)) b ∙ new.1, m ∙ new.2 ∙ ap (λ w. closed_minus r w new.0) (sym v))
+
+      by : In y ys ⊎ In y (t ∷ []) → HasRowSign r ns y
+      by (inl j) = old y j
+      by (inr (inl q)) = subst (HasRowSign r ns) (sym q) here
+      by (inr (inr f)) = absurd f
+
   -- one keystone term more
-  pub key_signs : (ns : List Key) (ys zs : List KeyTerm) (t : KeyTerm) (x : Closed) → zs ≡ ys ++ t ∷ [] → nodes_at t.branches ≡ chosen_nodes x.branches → t.vertex ≡ x.vertex → t.minus ≡ x.minus
-      → KeysHaveSigns r ns ys → HasClosedSign r ns x → KeysHaveSigns r ns zs
+  pub key_signs : (ns : List Key) (ys zs : List KeyTerm) (t : KeyTerm) (x : Row) → zs ≡ ys ++ t ∷ [] → nodes_at t.branches ≡ chosen_nodes x.branches → t.vertex ≡ x.vertex → t.minus ≡ x.minus
+      → KeysHaveSigns r ns ys → HasRowSign r ns x → KeysHaveSigns r ns zs
   key_signs ns ys zs t x g b v m old new y i = by (in_either y ys (t ∷ []) (subst (In y) g i))
     where
       here : HasKeySign r ns t
@@ -82,3 +98,8 @@ still_longer ns ms ks ts us x h e =
 -- one of those that all have their sign
 pub found_at : {A : Type 0} (P : A → Type 0) (xs : List A) (i : ℕ) (x : A) → All P xs → i < length xs → x ≡ get_or xs i x → P x
 found_at P xs i x a l e = subst P (sym e) (a i x l)
+
+pub keys_signed : (ys zs : List KeyTerm) (t : KeyTerm) (x : Row) (result : Result (Unit {0}) NoMemory) → OnOk result (zs ≡ ys ++ t ∷ []) → nodes_at t.branches ≡ chosen_nodes x.branches → t.vertex ≡ x.vertex → t.minus ≡ x.minus
+    → OnOk result ((r : Reaction) (ns : List Key) → KeysHaveSigns r ns ys → HasRowSign r ns x → KeysHaveSigns r ns zs)
+keys_signed ys zs t x (Ok u) g b v m = λ r ns old new. key_signs r ns ys zs t x g b v m old new
+keys_signed ys zs t x (Err f) g b v m = g

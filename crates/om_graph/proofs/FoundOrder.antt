@@ -8,14 +8,16 @@ use Rattle.std.proofs.Common.{Ordering, Less, Equal, Greater}
 use Rattle.std.specs.Cmp.Lexicographic.{slice_cmp}
 use Rattle.om_model.specs.Order.{numbers_lt}
 use Rattle.om_model.proofs.Rising.{numbers_order}
-use Rattle.om_graph.specs.contracts.closings.ClosedOrd.TheImpl as closed
+use Rattle.om_colour.specs.contracts.FlowOrd.TheImpl as flow
+use Rattle.om_colour.specs.declared.Flow.{Flow}
+use Rattle.om_graph.specs.contracts.key_terms.RowOrd.TheImpl as row
 use Rattle.om_graph.specs.contracts.fusions.FusedOrd.TheImpl as fused
 use Rattle.om_graph.specs.declared.Key.{Key}
 use Rattle.om_graph.specs.declared.chosen.Chosen.{Chosen}
-use Rattle.om_graph.specs.declared.closings.Closed.{Closed}
 use Rattle.om_graph.specs.declared.fusions.Fused.{Fused}
-use Rattle.om_graph.specs.Graph.{found_lt}
-use Rattle.om_graph.specs.Loops.{chosen_nodes, closed_found, fused_found}
+use Rattle.om_graph.specs.declared.key_terms.Row.{Row}
+use Rattle.om_graph.specs.Graph.{found_lt, numbered_lt}
+use Rattle.om_graph.specs.Loops.{chosen_nodes, fused_found, row_seen}
 use Rattle.om_graph.specs.Possible.{flow_lt, key_lt}
 use Rattle.om_graph.proofs.Orders.{key_order}
 
@@ -125,13 +127,17 @@ made_first made rest false true t less equal more h = refl
 made_first made rest false false true less equal more h = absurd (true≢false (sym (ap₂ (λ o p. is_lt (ordering_then o p)) (equal refl refl) (more refl)) ∙ h))
 made_first made rest false false false less equal more h = refl
 
-pub closed_before : (x y : Closed) → (x.vertex ≡ y.vertex → length (chosen_nodes x.branches) ≡ length (chosen_nodes y.branches)) → is_lt ((closed.ghosts).cmp x y) ≡ false → found_lt flow_lt (closed_found x) (closed_found y) ≡ false
-unfolding found_lt flow_lt behind
-closed_before x y l h =
-    made_first (slice_cmp nat_cmp x.flow.ends y.flow.ends) (behind x.vertex x.choice x.branches x.minus y.vertex y.choice y.branches y.minus)
-    (numbers_lt x.flow.ends y.flow.ends) (numbers_lt y.flow.ends x.flow.ends) (numbers_lt (x.vertex ∷ x.choice ∷ chosen_nodes x.branches) (y.vertex ∷ y.choice ∷ chosen_nodes y.branches))
-    (list_less x.flow.ends y.flow.ends) (λ e g. list_equal x.flow.ends y.flow.ends (numbers_order.total x.flow.ends y.flow.ends e g))
+pub row_before : (x y : Row) → (x.vertex ≡ y.vertex → length (chosen_nodes x.branches) ≡ length (chosen_nodes y.branches)) → is_lt ((row.ghosts).cmp x y) ≡ false → numbered_lt (row_seen x) (row_seen y) ≡ false
+unfolding numbered_lt numbers_lt behind
+row_before x y l h =
+    made_first (nat_cmp x.flow y.flow) (behind x.vertex x.choice x.branches x.minus y.vertex y.choice y.branches y.minus)
+    (ltb x.flow y.flow) (ltb y.flow x.flow) (numbers_lt (x.vertex ∷ x.choice ∷ chosen_nodes x.branches) (y.vertex ∷ y.choice ∷ chosen_nodes y.branches))
+    (λ e. nat_less x.flow y.flow (ltb-true x.flow y.flow e)) (λ e g. nat_equal x.flow y.flow (let a = ltb-false x.flow y.flow e in let b = ltb-false y.flow x.flow g in omega (arith, a, b)))
     (rest_less x.vertex x.choice y.vertex y.choice x.branches y.branches x.minus y.minus l) h
+
+pub flow_before : (x y : Flow) → is_lt ((flow.ghosts).cmp x y) ≡ false → flow_lt x y ≡ false
+unfolding flow_lt
+flow_before x y h = sym (lists_agree x.ends y.ends) ∙ h
 
 -- the order of keys of one set
 key_cmp : Key → Key → Ordering

@@ -24,7 +24,7 @@ use Rattle.om_graph.specs.Loops.{CanCloseOver, Signed, chosen_nodes, closed_at, 
 use Rattle.om_graph.specs.Possible.{flow_lt, key_state_of, unsigned_key}
 use Rattle.om_graph.specs.Search.{State, add_all, flows_of, number_in, numbered}
 use Rattle.om_graph.specs.SetSearch.{closings_of, found_closed, found_in, keystone_splits, set_search}
-use Rattle.om_graph.specs.SetWalk.{CanCloseAll, ClosesAll, HasClosedSign, KeysHaveSigns}
+use Rattle.om_graph.specs.SetWalk.{CanCloseAll, HasClosed, HasClosedSign, KeysHaveSigns}
 use Rattle.om_graph.specs.Tuples.{met_over_all}
 use Rattle.om_graph.specs.Vertices.{Reaction, closed_minus, fields_of, fusion, is_outward, keeps_edges}
 use Rattle.om_graph.proofs.Adding.{adding_is_step}
@@ -139,59 +139,30 @@ module _ (r : Reaction) (ns : List Key) (can : CanCloseAll r ns) where
           without [] = refl
           without (y ∷ ys) = ap (λ zs. closed_found y ∷ zs) (without ys)
 
-      module _ (sorted : List Closed) (p : IsPermutation unsorted sorted) where
-        pub closed_several : All (λ (y : Closed). 2 ≤ y.branches.count) sorted
-        closed_several = All-permutation (λ (y : Closed). 2 ≤ y.branches.count) unsorted sorted p
-            (all_of_members (λ (y : Closed). 2 ≤ y.branches.count) unsorted (λ y i. let s = (known_found y i).several in let l = take_shorter y.branches.count y.branches.nodes in omega (arith, s, l)))
+      pub closed_several : All (λ (y : Closed). 2 ≤ length (chosen_nodes y.branches)) unsorted
+      closed_several = all_of_members (λ (y : Closed). 2 ≤ length (chosen_nodes y.branches)) unsorted (λ y i. (known_found y i).several)
 
-        closed_signs : All (HasClosedSign r ns) sorted
-        closed_signs = All-permutation (HasClosedSign r ns) unsorted sorted p (all_of_members (HasClosedSign r ns) unsorted (λ y i. let k = known_found y i in (k.keys, k.are, k.sign)))
+      pub closed_different : Different (map closed_found unsorted)
+      closed_different = subst Different (sym found_list) (closings_once r can.reaction.fields ns)
 
-        module _ (s : IsSortedBy (λ (x y : Closed). found_lt flow_lt (closed_found x) (closed_found y)) sorted) where
-          in_order : map closed_found sorted ≡ rising_of (found_lt flow_lt) (closings_of r ns)
-          in_order =
-              sorted_is_rising (found_lt flow_lt) (found_order flow_lt flow_order) (map closed_found unsorted) (map closed_found sorted)
-              (subst Different (sym found_list) (closings_once r can.reaction.fields ns)) (IsPermutation-map closed_found unsorted sorted p) (sorted_map closed_found (found_lt flow_lt) sorted s)
-              ∙ ap (rising_of (found_lt flow_lt)) found_list
+      closed_signs : All (HasClosedSign r ns) unsorted
+      closed_signs = all_of_members (HasClosedSign r ns) unsorted (λ y i. let k = known_found y i in (k.keys, k.are, k.sign))
 
-          empty : State Flow
-          empty = record { nodes = []; terms = [] }
-
-          after : State Flow
-          after = record { nodes = rising_of flow_lt (map (λ (x : Found Flow). x.made) (closings_of r ns)); terms = numbered flow_lt (rising_of flow_lt (map (λ (x : Found Flow). x.made) (closings_of r ns))) (closings_of r ns) }
-
-          all_added : (ys : List KeyTerm) (ws : List Flow) → ys ≡ [] → ws ≡ [] → add_all flow_lt (key_state_of ws ys) (map closed_found sorted) ≡ after
-          unfolding empty after
-          all_added ys ws e f =
-              ap₂ (λ (us : List Flow) (vs : List KeyTerm). add_all flow_lt (key_state_of us vs) (map closed_found sorted)) f e
-              ∙ ap (add_all flow_lt empty) in_order
-              ∙ adding_is_step flow_lt flow_order empty (closings_of r ns) tt (λ n x i j. absurd i) (λ k i j. absurd i)
-
-          -- what numbering what closes leaves
-          pub closes : (limit : ℕ) → (length (map closed_seen old) ≤ limit → length (map closed_seen unsorted) ≤ limit) → (ys zs : List KeyTerm) (ws us : List Flow) (result : Result (Unit {0}) BuildFault) → ys ≡ [] → ws ≡ []
-              → OnOk result (key_state_of us zs ≡ add_all flow_lt (key_state_of ws ys) (map closed_found sorted)) → OnOk result ((q : Reaction) (ms : List Key) → KeysHaveSigns q ms ys → All (HasClosedSign q ms) sorted → KeysHaveSigns q ms zs) → IfErr result (λ fault. fault ≡ Memory)
-              → ClosesAll r ns limit zs us result
-          unfolding after flows_of
-          closes limit fits ys zs ws us (Ok u) e f st sg err =
-              let q : key_state_of us zs ≡ after = st ∙ all_added ys ws e f in
-              let w : us ≡ flows_of (fusion r) (set_search r) flow_lt (closings_of r ns) = ap (λ (s : State Flow). s.nodes) q in
-              let t = ap (λ (s : State Flow). s.terms) q in
-              record {
-                flows = w;
-                keys = t ∙ ap (λ (l : List Flow). numbered flow_lt l (closings_of r ns)) (sym w);
-                few =
-                    let a = ap length t in
-                    let b = length-map zs unsigned_key in
-                    let c = numbered-length (closings_of r ns) (rising_of flow_lt (map (λ (x : Found Flow). x.made) (closings_of r ns))) (closings_once r can.reaction.fields ns) in
-                    let d = length-map unsorted closed_seen in
-                    let k = length-map unsorted closed_found in
-                    let l = ap length found_list in
-                    let m = ap (λ (xs : List Closed). length (map closed_seen xs)) none in
-                    let n = fits (omega (arith, m)) in
-                    omega (arith, a, b, c, d, k, l, n);
-                signs = sg r ns (subst (λ (l : List KeyTerm). KeysHaveSigns r ns l) (sym e) (λ y i. absurd i)) closed_signs;
-              }
-          closes limit fits ys zs ws us (Err fault) e f st sg err = λ t. absurd (not_both (sym err ∙ t))
-            where
-              not_both : Memory ≡ TooLarge → ⊥
-              not_both h = cc
+      -- what numbering what closes leaves
+      pub closes : (limit : ℕ) → (length (map closed_seen old) ≤ limit → length (map closed_seen unsorted) ≤ limit) → (ys : List KeyTerm) (ws : List Flow) → ws ≡ rising_of flow_lt (map (λ (x : Found Flow). x.made) (map closed_found unsorted))
+          → map unsigned_key ys ≡ numbered flow_lt ws (map closed_found unsorted) → ((q : Reaction) (ms : List Key) → All (HasClosedSign q ms) unsorted → KeysHaveSigns q ms ys) → HasClosed r ns limit ys ws
+      unfolding flows_of
+      closes limit fits ys ws w k sg = record {
+        flows = w ∙ ap (λ (xs : List (Found Flow)). rising_of flow_lt (map (λ (x : Found Flow). x.made) xs)) found_list;
+        keys = k ∙ ap (numbered flow_lt ws) found_list;
+        few =
+            let a = ap length k in
+            let b = length-map ys unsigned_key in
+            let c = numbered-length (map closed_found unsorted) ws closed_different in
+            let d = length-map unsorted closed_seen in
+            let e = length-map unsorted closed_found in
+            let m = ap (λ (xs : List Closed). length (map closed_seen xs)) none in
+            let n = fits (omega (arith, m)) in
+            omega (arith, a, b, c, d, e, n);
+        signs = sg r ns closed_signs;
+      }

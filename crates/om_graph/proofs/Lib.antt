@@ -25,6 +25,7 @@ pub mod MeetingLists
 pub mod MetFused
 pub mod Choosing
 pub mod AddedTerms
+pub mod NumberedRows
 pub mod ClosedFlows
 pub mod Parity
 pub mod AtNumbers
@@ -46,6 +47,7 @@ pub mod WalkSteps
 pub mod AddedSigns
 pub mod SplitLists
 pub mod SignedLists
+pub mod KeyRows
 pub mod SetStep
 pub mod KeyStep
 pub mod WholeGraph

@@ -13,8 +13,9 @@ use Rattle.om_graph.specs.declared.fields.Meeting.{Meeting}
 use Rattle.om_graph.specs.declared.chosen.Chosen.{Chosen}
 use Rattle.om_graph.specs.declared.closings.Closed.{Closed}
 use Rattle.om_graph.specs.declared.fusions.Fused.{Fused}
+use Rattle.om_graph.specs.declared.key_terms.Row.{Row}
 use Rattle.om_graph.specs.ColoursFit.{CanJoin}
-use Rattle.om_graph.specs.Graph.{Found, at_numbers}
+use Rattle.om_graph.specs.Graph.{Found, Numbered, at_numbers}
 use Rattle.om_graph.specs.Tuples.{met_from, tuples}
 use Rattle.om_graph.specs.Vertices.{Reaction, is_outward, keeps_edges, sets_of, fields_of, union_of, fused_slots, closed_slots, fused_minus, closed_minus, slot_partials, hole_of, four_slots}
 
@@ -107,6 +108,10 @@ fused_found x = record { made = x.key; vertex = x.vertex; choice = x.choice; bra
 
 abbrev pub closed_found : Closed → Found Flow
 closed_found x = record { made = x.flow; vertex = x.vertex; choice = x.choice; branches = chosen_nodes x.branches }
+
+-- what closes, by the number of its flow
+abbrev pub row_seen : Row → Numbered
+row_seen x = record { made = x.flow; vertex = x.vertex; choice = x.choice; branches = chosen_nodes x.branches }
 
 -- and with it
 abbrev pub fused_seen : Fused → Signed Key

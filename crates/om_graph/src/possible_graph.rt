@@ -7,7 +7,6 @@ ghost use Rattle.om_graph.specs.SetWalk.{CanCloseAll, ClosesAll};
 ghost use Rattle.om_model.specs.ProcessOf.{IsProcessOf};
 ghost use Rattle.om_model.specs.WellFormed.{IsWellFormed};
 
-use crate::closings::sort;
 use crate::key_terms::add_key_terms;
 use crate::nodes::Nodes;
 use crate::partitions::add_closings;
@@ -92,10 +91,10 @@ fn add_keystones(
     if let Err(fault) = add_closings(alloc, reaction, nodes, limit, &mut found) {
         return Err(fault);
     }
-    if let Err(fault) = sort(&mut found) {
-        return Err(fault);
+    match add_key_terms(alloc, flows, keys, found) {
+        Ok(()) => Ok(()),
+        Err(_) => Err(BuildFault::Memory),
     }
-    add_key_terms(flows, keys, &found)
 }
 
 fn copied<T: Copy + Drop>(alloc: Global, items: &[T]) -> Result<List<T>, BuildFault>
