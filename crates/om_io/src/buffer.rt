@@ -7,8 +7,9 @@ ghost use Rattle.om_io.specs.Writing.{Writes, outlet};
 use crate::{Failed, Sink, write_all};
 use om_ring::{LINE_BYTES, Line};
 
-/// How many bytes are free after [`make_room`].
-pub const ROOM_BYTES: usize = 160;
+/// How many bytes are free after [`make_room`]: enough for each line that is written at once, of which the longest is that of a flow's
+/// value, of 162 bytes.
+pub const ROOM_BYTES: usize = 192;
 
 /// Sees that [`ROOM_BYTES`] bytes are free in the buffer.
 ///

@@ -13,7 +13,7 @@ use Rattle.om_model.specs.declared.model.Model.{Model}
 use Rattle.om_emit.specs.EmittedAnswer.{with_sums}
 use Rattle.om_io.specs.Writing.{Outlet, Takes, Breaks, outlet}
 use Rattle.om_io.proofs.Outlets.{all_written, prefix_written, row_breaks, row_more}
-use Rattle.om_top.specs.AnswerText.{answer_line, answer_text, value_text}
+use Rattle.om_top.specs.AnswerText.{answer_line, answer_text, pair_line, value_text}
 
 -- the flows of a code
 pub same_flows : (items : List Flow) (a b : Code) → items ≡ a.flows → a ≡ b → items ≡ b.flows
@@ -38,31 +38,16 @@ few_pairs [] sums = omega arith
 few_pairs (w ∷ ws) [] = omega arith
 few_pairs (w ∷ ws) (x ∷ xs) = omega (arith, few_pairs ws xs)
 
--- the line of a pair
-abbrev pub pair_line : {E : Type 0} → (E → List ℕ) → ℕ → List ℕ × E → List ℕ
-pair_line show e v = answer_line e (value_text show v)
-
 pub values_text : {E : Type 0} (show : E → List ℕ) (m : Model) (e : ℕ) (vs : List (List ℕ × E)) → answer_text show m e (values vs) ≡ flat_map (pair_line show e) vs
 values_text show m e vs = flat_map-map (answer_line e) (value_text show) vs
-
--- a text was appended without a buffer
-pub wrote : (before now : Option (List ℕ)) (faults later : ℕ) (text : List ℕ) → now ≡ after_told before text → faults ≤ later → Takes (outlet before faults []) (outlet now later []) text
-wrote before now faults later text e h = record { later = h; sent = text; parts = sym (append-nil text); appended = e }
-
-pub broke : (before now : Option (List ℕ)) (faults later : ℕ) (text : List ℕ) → AppendsPrefix before now text → faults ≤ later → Rose faults later → Breaks (outlet before faults []) (outlet now later []) text
-broke before now faults later text e h r = record { later = h; rose = r; appended = e }
 
 module _ {E : Type 0} (show : E → List ℕ) (m : Model) (e : ℕ) (items flows : List Flow) (sums : List E) (same : items ≡ flows) where
   abbrev pub rows : List (List ℕ × E)
   rows = with_sums flows sums
 
   -- the lines of all flows
-  pub all_lines : (k : ℕ) (before now : Option (List ℕ)) (faults later : ℕ) → length items ≤ k
-      → Takes (outlet before faults []) (outlet now later []) (flat_map (pair_line show e) (take k rows)) → now ≡ after_told before (answer_text show m e (values rows))
-  all_lines k before now faults later h p =
-      let few : length rows ≤ k = omega (arith, h, few_pairs flows sums, ap length same) in
-      let all : flat_map (pair_line show e) (take k rows) ≡ answer_text show m e (values rows) = ap (flat_map (pair_line show e)) (take_all k rows few) ∙ sym (values_text show m e rows) in
-      rw all at (all_written (outlet before faults []) (outlet now later []) (flat_map (pair_line show e) (take k rows)) refl refl p)
+  pub all_lines : (a b : Outlet) (k : ℕ) → length items ≤ k → Takes a b (flat_map (pair_line show e) (take k rows)) → Takes a b (flat_map (pair_line show e) rows)
+  all_lines a b k h p = rw (← take_all k rows (omega (arith, h, few_pairs flows sums, ap length same))) p
 
   module _ (k : ℕ) (x : E) (some : k < length items) (at : slice_get sums k ≡ Some x) (d : Flow) (line : List ℕ) (is : line ≡ pair_line show e ((slice_index_or items k d).ends, x)) where
     abbrev w : Flow
@@ -76,11 +61,8 @@ module _ {E : Type 0} (show : E → List ℕ) (m : Model) (e : ℕ) (items flows
     line_more a b c p q = row_more (pair_line show e) rows a b c k (w.ends, x) (w.ends, x) here.within (sym (here.pair (w.ends, x))) p (rw is at q)
 
     -- a line that broke off
-    pub line_breaks : (before : Option (List ℕ)) (faults : ℕ) (b c : Outlet) → Takes (outlet before faults []) b (flat_map (pair_line show e) (take k rows)) → Breaks b c line
-        → AppendsPrefix before c.written (answer_text show m e (values rows))
-    line_breaks before faults b c p q =
-        rw (sym (values_text show m e rows)) at (prefix_written (outlet before faults []) c (flat_map (pair_line show e) rows) refl
-        (row_breaks (pair_line show e) rows (outlet before faults []) b c k (w.ends, x) (w.ends, x) here.within (sym (here.pair (w.ends, x))) p (rw is at q)))
+    pub line_breaks : (a b c : Outlet) → Takes a b (flat_map (pair_line show e) (take k rows)) → Breaks b c line → Breaks a c (flat_map (pair_line show e) rows)
+    line_breaks a b c p q = row_breaks (pair_line show e) rows a b c k (w.ends, x) (w.ends, x) here.within (sym (here.pair (w.ends, x))) p (rw is at q)
 
 -- an answer with one line
 pub one_text : (e : ℕ) (line text : List ℕ) → line ≡ answer_line e text → line ≡ flat_map (answer_line e) (text ∷ [])

@@ -30,6 +30,10 @@ outcome_lines show m (values vs) = map (value_text show) vs
 abbrev pub answer_line : ℕ → List ℕ → List ℕ
 answer_line e text = decimal e ++ codes " " ++ text ++ codes "\n"
 
+-- the line of a flow and its value
+abbrev pub pair_line : {E : Type 0} → (E → List ℕ) → ℕ → List ℕ × E → List ℕ
+pair_line show e v = answer_line e (value_text show v)
+
 -- the text of the answer to event number e
 abbrev pub answer_text : {E : Type 0} → (E → List ℕ) → Model → ℕ → Answer E → List ℕ
 answer_text show m e a = flat_map (answer_line e) (outcome_lines show m a)

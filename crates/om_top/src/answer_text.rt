@@ -1,18 +1,21 @@
 //! The text of the answer to an event.
-ghost use Rattle.std.specs.Prelude.{◌≡◌, ◌+◌, ◌<◌, ◌≤◌, ◌^◌, ◌++◌, [], length, decimal, codes, OnErr, OnOk, Some};
+ghost use Rattle.std.specs.Prelude.{◌≡◌, ◌+◌, ◌<◌, ◌≤◌, ◌^◌, ◌++◌, [], length, flat_map, decimal, codes, OnErr, OnOk, Some};
 ghost use Rattle.om_io.specs.Bytes.{AppendsPrefix, after_told};
 ghost use Rattle.om_io.specs.Causes.{HasCause};
+ghost use Rattle.om_io.specs.declared.buffer.TheConstants.{ROOM_BYTES};
+ghost use Rattle.om_ring.specs.declared.line.TheConstants.{LINE_BYTES};
 ghost use Rattle.om_code.specs.Meaning.{edge_of_den};
 ghost use Rattle.om_code.specs.declared.code.Den.{Den as DenOf};
 ghost use Rattle.om_emit.specs.EmittedAnswer.{answer_with, with_sums};
 ghost use Rattle.om_machine.specs.Loaded.{answer_of};
 ghost use Rattle.om_machine.specs.declared.answer.Outcome.TheVariants.{Values};
 ghost use Rattle.om_model.specs.Answer.Answer.{values};
-ghost use Rattle.om_top.specs.AnswerText.{answer_line, answer_text, pole_line, value_text};
+ghost use Rattle.om_io.specs.Writing.{Writes, outlet};
+ghost use Rattle.om_top.specs.AnswerText.{answer_line, answer_text, pair_line, pole_line};
 
 use om_code::Code;
 use om_colour::{Flow, flow_text};
-use om_io::{Failed, Sink, write_all};
+use om_io::{Failed, Sink, flush, make_room, write_all};
 use om_legs::LegSet;
 use om_machine::{Machine, Outcome};
 use om_model::{field_name, push_leg_set};
@@ -64,18 +67,49 @@ fn write_values<R: Ring, O: Sink>(
         OnErr result (AppendsPrefix (O.written out.old) (O.written out.new) (answer_text (R.text ring.now) m.code.model number (values (with_sums m.code.flows m.sums)))) }
     ensures cause { HasCause (O.faults out.old) (O.faults out.new) result }
 {
+    let mut line = Line::new();
+    write_lines(ring, machine, number, out, &mut line)?;
+    flush(out, &mut line)
+}
+
+// Writes the lines of all flows through a buffer, so that an answer of many flows takes few writes.
+fn write_lines<R: Ring, O: Sink>(
+    ring: &R,
+    machine: &Machine<R::E>,
+    number: u32,
+    out: &mut O,
+    line: &mut Line,
+) -> Result<(), Failed>
+    requires last { machine.now.outcome ≡ Some Values }
+    requires few { length machine.now.code.flows < 2 ^ 32 }
+    ensures { let m = machine.now in
+        Writes (outlet (O.written out.old) (O.faults out.old) line.old) (outlet (O.written out.new) (O.faults out.new) line.new) (flat_map (pair_line (R.text ring.now) number) (with_sums m.code.flows m.sums)) result }
+{
     for (k, flow) in machine.code().flows.as_slice().iter().enumerate() {
-        let mut line = Line::new();
-        push_value(ring, number, flow, machine.value(k as u32), &mut line);
-        write_all(out, line.bytes())?;
+        write_value(ring, number, flow, machine.value(k as u32), out, line)?;
     }
+    Ok(())
+}
+
+fn write_value<R: Ring, O: Sink>(
+    ring: &R,
+    number: u32,
+    flow: &Flow,
+    value: R::E,
+    out: &mut O,
+    line: &mut Line,
+) -> Result<(), Failed>
+    ensures { Writes (outlet (O.written out.old) (O.faults out.old) line.old) (outlet (O.written out.new) (O.faults out.new) line.new) (pair_line (R.text ring.now) number (flow.now.ends, value)) result }
+{
+    make_room(out, line)?;
+    push_value(ring, number, flow, value, line);
     Ok(())
 }
 
 /// Appends the line of a flow.
 fn push_value<R: Ring>(ring: &R, number: u32, flow: &Flow, value: R::E, line: &mut Line)
-    requires { line.old ≡ [] }
-    ensures { line.new ≡ answer_line number (value_text (R.text ring.now) (flow.now.ends, value)) }
+    requires { length line.old + ROOM_BYTES ≤ LINE_BYTES }
+    ensures { line.new ≡ line.old ++ pair_line (R.text ring.now) number (flow.now.ends, value) }
 {
     push_start(number, line);
     flow_text(flow, line);
@@ -108,7 +142,7 @@ fn push_unbalanced(number: u32, line: &mut Line)
 
 /// Appends the number of an event and a space.
 fn push_start(number: u32, line: &mut Line)
-    requires { length line.old ≤ 400 }
+    requires { length line.old + ROOM_BYTES ≤ LINE_BYTES }
     ensures value { line.new ≡ line.old ++ (decimal number ++ codes " ") }
     ensures short { length line.new ≤ length line.old + 21 }
 {

@@ -102,6 +102,8 @@ pub(crate) struct Left {
     pub status: u8,
     pub out: MemSink,
     pub err: MemSink,
+    /// How many ring calls were made.
+    pub calls: u64,
 }
 
 /// What the run of a case leaves, with this file model.toml.
@@ -123,5 +125,11 @@ pub(crate) fn left_by(
     let status = run(
         alloc, &Zp, &words, &mut files, &mut input, &mut out, &mut err, &mut steps,
     );
-    Ok(Left { status, out, err })
+    let calls = steps.count();
+    Ok(Left {
+        status,
+        out,
+        err,
+        calls,
+    })
 }
