@@ -12,7 +12,14 @@ use om_ring::{DECIMAL_BYTES, Line};
 const BRANCHES_BYTES: usize = 4 * (1 + DECIMAL_BYTES);
 
 /// The most bytes of the words of a term: what it makes, its sign, vertex and choice with spaces between, and the nodes.
-pub const TERM_BYTES: usize = DECIMAL_BYTES + 1 + 1 + 1 + DECIMAL_BYTES + 1 + DECIMAL_BYTES + BRANCHES_BYTES;
+pub const TERM_BYTES: usize = DECIMAL_BYTES
+    + 1
+    + 1
+    + 1
+    + DECIMAL_BYTES
+    + 1
+    + DECIMAL_BYTES
+    + BRANCHES_BYTES;
 
 /// Appends the words of a term with single spaces between: the number of what it makes, its sign,
 /// the number of its vertex, its choice, and the numbers of the nodes that meet there. Numbers count
