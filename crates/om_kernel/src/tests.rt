@@ -91,12 +91,12 @@ fn spinors(rt: HostRuntime) {
 
 #[test]
 fn vectors(rt: HostRuntime) {
-    assert!(rt; takes(Structure::Vvv, [1, 2, 3, 0], [71, 71, 71, 0], 78));
-    assert!(rt; takes(Structure::Vvv, [2, 1, 3, 0], [71, 71, 71, 0], 78));
-    assert!(rt; takes(Structure::Vvvv, [1, 2, 3, 4], [53, 53, 53, 53], 60));
-    assert!(rt; takes(Structure::Gluon4, [1, 2, 3, 4], [53, 53, 53, 53], 60));
-    assert!(rt; takes(Structure::Gluon4, [3, 1, 2, 4], [53, 53, 53, 53], 60));
-    assert!(rt; takes(Structure::Gluon4, [2, 4, 3, 1], [53, 53, 53, 53], 60));
+    assert!(rt; takes(Structure::Vvv, [1, 2, 3, 0], [68, 68, 68, 0], 75));
+    assert!(rt; takes(Structure::Vvv, [2, 1, 3, 0], [68, 68, 68, 0], 75));
+    assert!(rt; takes(Structure::Vvvv, [1, 2, 3, 4], [50, 50, 50, 50], 57));
+    assert!(rt; takes(Structure::Gluon4, [1, 2, 3, 4], [50, 50, 50, 50], 57));
+    assert!(rt; takes(Structure::Gluon4, [3, 1, 2, 4], [50, 50, 50, 50], 57));
+    assert!(rt; takes(Structure::Gluon4, [2, 4, 3, 1], [50, 50, 50, 50], 57));
 }
 
 // The row (1, 0, 0, 0) and the column (0, 0, 1, 0) with the factors 1 and 0, without momenta.

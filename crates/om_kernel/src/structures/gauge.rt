@@ -61,7 +61,7 @@ fn paired<R: Ring<Mark = L>, L>(
     steps: &mut Steps<L>,
 ) -> Wave<R::E>
     ensures value { let o = R.ops ring.now in result ≡ pairs_form o (filled o slots.now) factors.now reading hole }
-    ensures at_most { steps.new ≤ steps.old + 50 * R.cost ring.now }
+    ensures at_most { steps.new ≤ steps.old + 47 * R.cost ring.now }
 {
     let (j, k, m) = three_before(reading, hole);
     let p = four_at(ring, slots, j);

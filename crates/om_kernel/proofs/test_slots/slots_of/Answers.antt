@@ -2,11 +2,12 @@ use Rattle.std.proofs.Common.{◌≡◌, ◌≢◌, ◌≤◌, ℕ, List, [], �
 use Rattle.om_ring.specs.Ops.{Ops}
 use Rattle.om_ring.specs.ZpOps.{zp}
 use Rattle.om_lorentz.specs.declared.structures.Structure.{Structure}
+use Rattle.om_lorentz.specs.declared.vectors.Four.{Four}
 use Rattle.om_kernel.specs.declared.waves.Place.{Place}
 use Rattle.om_kernel.specs.declared.waves.Wave.{Wave}
 use Rattle.om_kernel.specs.declared.waves.Wave.TheVariants.{Scalar}
 use Rattle.om_kernel.specs.IndexSums.{Fits, FitsAll, FitsBeside, slot_kind, wave_at}
-use Rattle.om_kernel.specs.Slots.{Slots, wave_from}
+use Rattle.om_kernel.specs.Slots.{Slots, slots_at, wave_from}
 use Rattle.om_kernel.specs.Waves.{held_kind}
 use Rattle.om_kernel.proofs.SlotOrders.{four_slots}
 use Rattle.om_kernel.proofs.test_slots.slots_of.Goals as goal
@@ -51,9 +52,11 @@ returns-clause-hole c low =
     let two = stands zp waves _ c.or_zero-2.result c.place-2.result 1 c.or_zero-2.ensures c.place-2.ensures refl in
     let three = stands zp waves _ c.or_zero-3.result c.place-3.result 2 c.or_zero-3.ensures c.place-3.ensures refl in
     let four = stands zp waves _ c.or_zero-4.result c.place-4.result 3 c.or_zero-4.ensures c.place-4.ensures refl in
-    let beside = fits_beside s h _ (beside_of s h _ _ 1 one c.wave_beside-first.ensures.beside) (beside_of s h _ _ 2 two c.wave_beside-second.ensures.beside)
+    let momenta : List (Four _) = c.momentum.result ∷ c.momentum-2.result ∷ c.momentum-3.result ∷ c.momentum-4.result ∷ [] in
+    let w : Slots _ = slots_at zp waves momenta (record { first = c.place.result; second = c.place-2.result; third = c.place-3.result; fourth = c.place-4.result }) in
+    let beside = fits_beside s h w (beside_of s h _ _ 1 one c.wave_beside-first.ensures.beside) (beside_of s h _ _ 2 two c.wave_beside-second.ensures.beside)
     (beside_of s h _ _ 3 three c.wave_beside-third.ensures.beside) (beside_of s h _ _ 4 four c.wave_beside-fourth.ensures.beside) in
-    fits s h _ beside low c.requires (empty_of s h _ _ 1 one c.wave_beside-first.ensures.empty) (empty_of s h _ _ 2 two c.wave_beside-second.ensures.empty)
+    fits s h w beside low c.requires (empty_of s h _ _ 1 one c.wave_beside-first.ensures.empty) (empty_of s h _ _ 2 two c.wave_beside-second.ensures.empty)
     (empty_of s h _ _ 3 three c.wave_beside-third.ensures.empty) (empty_of s h _ _ 4 four c.wave_beside-fourth.ensures.empty)
 
 pub returns-clause-all : goal.returns-clause-all
@@ -65,6 +68,8 @@ returns-clause-all c none =
     let two = stands zp waves _ c.or_zero-2.result c.place-2.result 1 c.or_zero-2.ensures c.place-2.ensures refl in
     let three = stands zp waves _ c.or_zero-3.result c.place-3.result 2 c.or_zero-3.ensures c.place-3.ensures refl in
     let four = stands zp waves _ c.or_zero-4.result c.place-4.result 3 c.or_zero-4.ensures c.place-4.ensures refl in
-    let beside = fits_beside s h _ (beside_of s h _ _ 1 one c.wave_beside-first.ensures.beside) (beside_of s h _ _ 2 two c.wave_beside-second.ensures.beside)
+    let momenta : List (Four _) = c.momentum.result ∷ c.momentum-2.result ∷ c.momentum-3.result ∷ c.momentum-4.result ∷ [] in
+    let w : Slots _ = slots_at zp waves momenta (record { first = c.place.result; second = c.place-2.result; third = c.place-3.result; fourth = c.place-4.result }) in
+    let beside = fits_beside s h w (beside_of s h _ _ 1 one c.wave_beside-first.ensures.beside) (beside_of s h _ _ 2 two c.wave_beside-second.ensures.beside)
     (beside_of s h _ _ 3 three c.wave_beside-third.ensures.beside) (beside_of s h _ _ 4 four c.wave_beside-fourth.ensures.beside) in
-    fits_all s h _ beside none
+    fits_all s h w beside none
