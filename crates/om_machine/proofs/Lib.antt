@@ -21,3 +21,10 @@ pub mod Listing
 pub mod LoadedRows
 pub mod TableMeaning
 pub mod EventWaves
+pub mod BlockLoop
+pub mod BlockTerms
+pub mod BlockSteps
+pub mod BlockAnswer
+pub mod BlockSums
+pub mod BlockWalk
+pub mod BlockCalls

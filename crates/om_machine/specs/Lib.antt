@@ -1,6 +1,7 @@
 pub mod Events
 pub mod Forms
 pub mod Decoded
+pub mod Blocks
 pub mod Momenta
 pub mod Loaded
 pub mod Rows

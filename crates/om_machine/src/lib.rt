@@ -1,10 +1,14 @@
 //! The register machine: events, and the evaluation of verified codes.
 //!
 //! `load` decodes each instruction once: the structure and the reading of its vertex, and slot by slot where the wave comes from
-//! and which legs lie behind it. `evaluate` walks over the decoded steps and calls the kernels; it takes no memory.
+//! and which legs lie behind it. Runs of steps that add products of two scalars to one place become one block, a sum of products.
+//! `evaluate` walks over the blocks, and calls the kernels for all other steps; it takes no memory.
 #![tactic(auto)]
 
 mod answer;
+mod block;
+mod blocking;
+mod blocks;
 mod decoding;
 mod edges;
 mod event;
@@ -15,10 +19,12 @@ mod loading;
 mod machine;
 mod momenta;
 mod numbers;
+mod prepared;
 mod reads;
 mod rows;
 mod run;
 mod sets;
+mod slots;
 mod step;
 mod vectors;
 

@@ -1,4 +1,4 @@
-//! Two programs as values: four scalars, and electrons to muons.
+//! Three programs as values: four scalars, five scalars, and electrons to muons.
 ghost use Rattle.std.specs.Prelude.{◌^◌, ◌<◌, IsTrue};
 ghost use Rattle.om_code.specs.Lines.{line_count};
 
@@ -11,10 +11,11 @@ use std::alloc::Global;
 use std::process::Abort;
 use std::test::Fail;
 
-/// Which of the two.
+/// Which of the three.
 #[derive(Clone, Copy, Debug)]
 pub(crate) enum Program {
     Scalars,
+    FiveScalars,
     Muons,
 }
 
@@ -25,6 +26,7 @@ pub(crate) const NOWHERE: usize = 99;
 pub(crate) fn code_of(alloc: Global, which: Program, bad: usize) -> Option<Code> {
     match which {
         Program::Scalars => scalar_code(alloc, bad),
+        Program::FiveScalars => five_code(alloc, bad),
         Program::Muons => muon_code(alloc, bad),
     }
 }
@@ -40,10 +42,14 @@ fn load_leg(leg: u8) -> Option<Instr> {
 }
 
 fn fuse(to: u32, vertex: u32, branches: [u32; 2]) -> Instr {
+    signed_fuse(to, false, vertex, branches)
+}
+
+fn signed_fuse(to: u32, minus: bool, vertex: u32, branches: [u32; 2]) -> Instr {
     let [a, b] = branches;
     Instr::Fuse {
         to,
-        minus: false,
+        minus,
         vertex,
         choice: 0,
         branches: Branches {
@@ -82,10 +88,10 @@ fn dens(alloc: Global, sets: &[u16], field: u16) -> Option<List<Den>> {
     Some(list)
 }
 
-fn instrs(alloc: Global, rest: &[Instr]) -> Option<List<Instr>> {
+fn instrs(alloc: Global, legs: &[u8], rest: &[Instr]) -> Option<List<Instr>> {
     let mut list = List::new(alloc);
-    for leg in [1u8, 2, 3, 4] {
-        list.push(load_leg(leg)?).ok()?;
+    for leg in legs {
+        list.push(load_leg(*leg)?).ok()?;
     }
     for instr in rest {
         list.push(*instr).ok()?;
@@ -113,7 +119,42 @@ fn scalar_code(alloc: Global, bad: usize) -> Option<Code> {
         flows: listed(alloc, &[Flow { ends: [0; 12] }])?,
         dens: dens(alloc, &[6, 10, 12], 0)?,
         slots: 7,
-        instrs: instrs(alloc, &rest)?,
+        instrs: instrs(alloc, &[1, 2, 3, 4], &rest)?,
+    })
+}
+
+// Five scalars: three products make one wave, two of them with a minus, and all keystone terms share the first leg.
+fn five_code(alloc: Global, bad: usize) -> Option<Code> {
+    let rest = [
+        fuse(5, 0, [1, 2]),
+        Instr::Prop { of: 5, den: 0 },
+        fuse(6, 0, [1, 3]),
+        Instr::Prop { of: 6, den: 1 },
+        fuse(7, 0, [2, 3]),
+        Instr::Prop { of: 7, den: 2 },
+        fuse(8, 0, [1, 4]),
+        Instr::Prop { of: 8, den: 4 },
+        fuse(9, 0, [2, 4]),
+        Instr::Prop { of: 9, den: 5 },
+        fuse(10, 0, [3, 4]),
+        Instr::Prop { of: 10, den: 6 },
+        signed_fuse(11, true, 0, [5, 3]),
+        signed_fuse(11, true, 0, [6, 2]),
+        signed_fuse(11, false, 0, [1, 7]),
+        Instr::Prop { of: 11, den: 3 },
+        key(false, [0, 11, 4]),
+        key(true, [0, 5, 10]),
+        key(true, [0, 6, 9]),
+        key(false, [0, 8, 7]),
+    ];
+    Some(Code {
+        version: 1,
+        model: scalar_model(alloc, bad)?,
+        legs: listed(alloc, &[0, 0, 0, 0, 0])?,
+        flows: listed(alloc, &[Flow { ends: [0; 12] }])?,
+        dens: dens(alloc, &[6, 10, 12, 14, 18, 20, 24], 0)?,
+        slots: 12,
+        instrs: instrs(alloc, &[1, 2, 3, 4, 5], &rest)?,
     })
 }
 
@@ -131,7 +172,7 @@ fn muon_code(alloc: Global, bad: usize) -> Option<Code> {
         flows: listed(alloc, &[Flow { ends: [0; 12] }])?,
         dens: dens(alloc, &[12], 4)?,
         slots: 5,
-        instrs: instrs(alloc, &rest)?,
+        instrs: instrs(alloc, &[1, 2, 3, 4], &rest)?,
     })
 }
 

@@ -68,20 +68,24 @@ fn put(rt: &impl Abort, code: &Code, event: &mut Event<Elem>, k: u8, leg: Leg)
     event.set(k, four(0, Zp.number(leg.time)), new);
 }
 
+// The event of four legs, or of five.
 pub(crate) fn event(
     rt: &impl Abort,
     alloc: Global,
     code: &Code,
-    legs: [Leg; 4],
+    legs: [Leg; 5],
 ) -> Result<Event<Elem>, Fail>
     requires { IsVerified code.now }
     ensures { IfOk result (IsMadeFor code.now) }
 {
     let mut event = Event::new(alloc, &Zp, code).ok().ok_or("no event")?;
-    let [first, second, third, fourth] = legs;
+    let [first, second, third, fourth, fifth] = legs;
     put(rt, code, &mut event, 1, first);
     put(rt, code, &mut event, 2, second);
     put(rt, code, &mut event, 3, third);
     put(rt, code, &mut event, 4, fourth);
+    if code.legs.len() > 4 {
+        put(rt, code, &mut event, 5, fifth);
+    }
     Ok(event)
 }
