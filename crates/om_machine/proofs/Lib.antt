@@ -21,3 +21,5 @@ pub mod Listing
 pub mod LoadedRows
 pub mod TableMeaning
 pub mod EventWaves
+pub mod DenominatorForm
+pub mod LeastLeg
