@@ -24,7 +24,8 @@ use Rattle.om_code.specs.Waves.{Incoming}
 use Rattle.om_machine.specs.Events.{HasKindAt}
 use Rattle.om_event.specs.Kinds.{HasKinds, kind_named}
 use Rattle.om_event.specs.declared.reader.Next.TheVariants as next
-use Rattle.om_event.specs.Next.{IsOpen, Refuses, Enters, IsShort, AtEnd}
+use Rattle.om_event.specs.Next.{IsOpen, Refuses, Enters, AtEnd}
+use Rattle.om_event.specs.Waits.{IsShort}
 use Rattle.om_event.specs.Pieces.{pieces}
 use Rattle.om_ring.specs.Products.{value_of}
 use Rattle.om_ring.specs.NumeralOf.{numeral_of}

@@ -7,4 +7,5 @@ pub mod Fronts
 pub mod LineFronts
 pub mod Written
 pub mod Next
+pub mod Waits
 pub mod Laws

@@ -4,7 +4,8 @@ ghost use Rattle.std.specs.Io.{StartsWith, appended_bytes};
 ghost use Rattle.om_io.specs.Bytes.{before_told};
 ghost use Rattle.om_io.specs.Causes.{HasCause, Rose};
 ghost use Rattle.om_event.specs.Fronts.{line_len};
-ghost use Rattle.om_event.specs.Next.{Stands, NoneLeft};
+ghost use Rattle.om_event.specs.Next.{NoneLeft};
+ghost use Rattle.om_event.specs.Waits.{Stands};
 ghost use Rattle.om_event.specs.declared.limits.TheConstants.{MOST_HELD_BYTES, MOST_LINE_BYTES};
 
 use crate::waited::Waited;

@@ -2,7 +2,7 @@
 ghost use Rattle.std.specs.Prelude.{◌≡◌, ◌+◌, ◌*◌, ◌≤◌};
 ghost use Rattle.std.specs.Io.{StartsWith, appended_bytes};
 ghost use Rattle.om_io.specs.Bytes.{before_told};
-ghost use Rattle.om_event.specs.Next.{FailsAt, HasKind, IsIdle, StandsAs, EndsAt};
+ghost use Rattle.om_event.specs.Waits.{FailsAt, HasKind, IsIdle, StandsAs, EndsAt};
 
 use crate::WaveKind;
 use crate::front::{ReadLine, line_at_front};
