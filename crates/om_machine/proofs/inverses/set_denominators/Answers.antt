@@ -5,7 +5,7 @@ use Rattle.om_machine.specs.Momenta.{table_from}
 use Rattle.om_machine.proofs.Inverting.{denominators-more}
 use Rattle.om_machine.proofs.inverses.set_denominators.Goals as goal
 
-pub denominator_of-value-requires-clause-momentum : goal.denominator_of-requires-clause-momentum
+pub denominator_of-value-requires-clause-momentum : goal.denominator_of-value-requires-clause-momentum
 denominator_of-value-requires-clause-momentum g c =
     c.requires.momenta c.loop-k.k c.den-item.result (row-at c.as_slice-den-items.result.now c.args.code.now.dens c.loop-k.k c.den-item.result c.as_slice-den-items.ensures c.loop-k-test.true c.den-item.is)
 
