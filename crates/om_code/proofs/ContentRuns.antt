@@ -7,7 +7,7 @@ use Rattle.std.proofs.lemmas.List.{get_or-set_same, get_or-set_other, length-set
 use Rattle.om_ring.specs.Ops.{Ops, signed}
 use Rattle.om_legs.specs.Legs.{set_of_one}
 use Rattle.om_legs.specs.declared.branches.Branches.{Branches}
-use Rattle.om_kernel.specs.declared.waves.Slots.{Slots}
+use Rattle.om_kernel.specs.Slots.{Slots, wave_from}
 use Rattle.om_kernel.specs.declared.waves.Wave.{Wave}
 use Rattle.om_kernel.specs.IndexSums.{full_sum, fused_kind, index_sum}
 use Rattle.om_model.specs.Entries.{factors_of}
@@ -21,7 +21,7 @@ use Rattle.om_code.specs.declared.slots.Phase.TheVariants.{Ready}
 use Rattle.om_code.specs.Slots as slots
 use Rattle.om_code.specs.Slots.{nothing, held_at, is_gathering, nodes_of, branches_held, fused, after, at_start, field_of_leg, slots_of_vertex}
 use Rattle.om_code.specs.Waves.{Incoming, plus_wave, signed_wave, wave_of, wave_of_leg, zero_wave}
-use Rattle.om_code.specs.Vertices.{branch, branches_of, entering_or_none, hole_by, hole_in, into_slots, reading_of_vertex, slots_with, structure_of, upwards, wave_from}
+use Rattle.om_code.specs.Vertices.{branch, branches_of, entering_or_none, hole_by, hole_in, into_slots, reading_of_vertex, slots_with, structure_of, upwards}
 use Rattle.om_code.specs.Meaning as machine
 use Rattle.om_code.specs.Meaning.{Values, sums_of, zeros}
 use Rattle.om_code.specs.Registers.{State, written, joined, act, run, start}

@@ -3,8 +3,7 @@ use Rattle.std.specs.Prelude.{◌≡◌, ℕ, ◌<◌, List, [], ◌∷◌, ◌+
 use Rattle.std.specs.List.{AllByRecursion}
 use Rattle.om_ring.specs.Ops.{Ops, signed}
 use Rattle.om_legs.specs.Legs.{set_of_one, complement}
-use Rattle.om_kernel.specs.declared.waves.Slot.{Slot}
-use Rattle.om_kernel.specs.declared.waves.Slots.{Slots}
+use Rattle.om_kernel.specs.Slots.{Slot, Slots}
 use Rattle.om_kernel.specs.declared.waves.Wave.{Wave}
 use Rattle.om_kernel.specs.Waves.{kind_of}
 use Rattle.om_kernel.specs.IndexSums.{full_sum, fused_kind, index_sum}

@@ -11,7 +11,7 @@ use Rattle.om_lorentz.specs.declared.vectors.Four.{Four}
 use Rattle.om_lorentz.specs.Matrices.{upper}
 use Rattle.om_lorentz.specs.Entries.{entry}
 use Rattle.om_lorentz.specs.Structures.{IsSlot, IsReading, slot_count, slot_indices}
-use Rattle.om_kernel.specs.declared.waves.Slots.{Slots}
+use Rattle.om_kernel.specs.Slots.{Slots}
 use Rattle.om_kernel.specs.declared.waves.Wave.{Wave}
 use Rattle.om_kernel.specs.declared.waves.Wave.TheVariants.{Scalar, Row, Column, Vector}
 use Rattle.om_kernel.specs.Waves.{a_scalar, a_vector, component, kind_of, held_kind}
@@ -24,7 +24,7 @@ use Rattle.om_kernel.proofs.FusedForms.{fused-sum, fused-kind}
 
 -- four products at variables: the sums from 0, the components from 4
 abbrev four_products : (ℕ → ℕ → Expr) → Expr
-four_products product = add (product 0 4) (add (product 1 5) (add (product 2 6) (product 3 7)))
+four_products product = add (add (product 0 4) (product 1 5)) (add (product 2 6) (product 3 7))
 
 module _ {E : Type 0} (o : Ops E) (l : Laws o) (w : Slots E) where
   -- the sum over the index of a slot, where the rest of the sum is X

@@ -6,7 +6,7 @@ use Rattle.om_lorentz.specs.declared.structures.Reading.{Reading}
 use Rattle.om_lorentz.specs.declared.structures.Structure.{Structure}
 use Rattle.om_lorentz.specs.declared.structures.Structure.TheVariants.{Sss, Ssss, Vss, Vvs, Vvss, Ffs, Ffv, Vvv, Vvvv, Gluon4}
 use Rattle.om_lorentz.specs.Structures.{IsReading, slot_count, slot_indices}
-use Rattle.om_kernel.specs.declared.waves.Slots.{Slots}
+use Rattle.om_kernel.specs.Slots.{Slots}
 use Rattle.om_kernel.specs.declared.waves.Wave.{Wave}
 use Rattle.om_kernel.specs.Waves.{component, kind_of}
 use Rattle.om_kernel.specs.IndexSums.{FitsBeside, fused_kind, index_sum}

@@ -11,7 +11,7 @@ use Rattle.om_lorentz.specs.Entries.{entry}
 use Rattle.om_lorentz.specs.Structures.{IsSlot}
 use Rattle.om_kernel.specs.declared.waves.Wave.{Wave}
 use Rattle.om_kernel.specs.declared.waves.Wave.TheVariants.{Scalar, Row, Column, Vector}
-use Rattle.om_kernel.specs.declared.waves.Slots.{Slots}
+use Rattle.om_kernel.specs.Slots.{Slots}
 use Rattle.om_kernel.specs.Waves.{Kind, a_scalar, a_row, a_column, a_vector, held_kind}
 use Rattle.om_kernel.specs.IndexSums.{Summand, fixed, brought, wave_at, slot_kind, momenta_of, FitsBeside, entry_sum, index_sum}
 use Rattle.om_kernel.specs.Components.{scalar_in, four_in}

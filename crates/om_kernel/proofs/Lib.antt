@@ -1,3 +1,4 @@
+pub mod PlacedSlots
 pub mod SlotSums
 pub mod SlotOrders
 pub mod KnownSlots

@@ -14,7 +14,7 @@ use Rattle.om_lorentz.specs.Structures.{IsSlot, IsReading, read}
 use Rattle.om_lorentz.proofs.Metric.{below_four}
 use Rattle.om_lorentz.proofs.Rotations.{rotates_three}
 use Rattle.om_kernel.specs.declared.gluons.Entering.{Entering}
-use Rattle.om_kernel.specs.declared.waves.Slots.{Slots}
+use Rattle.om_kernel.specs.Slots.{Slots}
 use Rattle.om_kernel.specs.Waves.{a_vector}
 use Rattle.om_kernel.specs.IndexSums.{Summand, fixed, slot_kind, sum_slots, entry_sum}
 use Rattle.om_kernel.specs.Components.{three_gluons}

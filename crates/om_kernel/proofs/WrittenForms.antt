@@ -9,8 +9,7 @@ use Rattle.om_lorentz.specs.declared.structures.Structure.TheVariants.{Sss, Ssss
 use Rattle.om_lorentz.specs.declared.vectors.Four.{Four}
 use Rattle.om_lorentz.proofs.Metric.{below_four}
 use Rattle.om_kernel.specs.declared.waves.Wave.TheVariants.{Scalar, Vector}
-use Rattle.om_kernel.specs.declared.waves.Slot.{Slot}
-use Rattle.om_kernel.specs.declared.waves.Slots.{Slots}
+use Rattle.om_kernel.specs.Slots.{Slot, Slots}
 use Rattle.om_kernel.specs.Waves.{Kind, a_scalar, a_row, a_column, a_vector, component}
 use Rattle.om_kernel.specs.IndexSums.{slot_kind, entry_sum}
 use Rattle.om_kernel.specs.Forms.{scalar_at, four_at, momentum_at, fused}

@@ -23,9 +23,9 @@ calls_to_fuse Ffs _ = 13
 calls_to_fuse Ffv (suc zero) = 30
 calls_to_fuse Ffv (suc (suc zero)) = 30
 calls_to_fuse Ffv _ = 31
-calls_to_fuse Vvv hole = 71
-calls_to_fuse Vvvv hole = 53
-calls_to_fuse Gluon4 hole = 53
+calls_to_fuse Vvv hole = 68
+calls_to_fuse Vvvv hole = 50
+calls_to_fuse Gluon4 hole = 50
 
 -- summing over the index of two waves
 abbrev pub calls_to_contract : {E : Type 0} → Wave E → ℕ
@@ -43,6 +43,6 @@ calls_to_close Vvs = 11
 calls_to_close Vvss = 12
 calls_to_close Ffs = 14
 calls_to_close Ffv = 38
-calls_to_close Vvv = 78
-calls_to_close Vvvv = 60
-calls_to_close Gluon4 = 60
+calls_to_close Vvv = 75
+calls_to_close Vvvv = 57
+calls_to_close Gluon4 = 57

@@ -35,29 +35,21 @@ module _ {E : Type 0} (o : Ops E) where
   abbrev pub dot : Four E → Four E → E
   dot p q = p.t ⊗ q.t ⊕ ⊖ (p.x ⊗ q.x ⊕ (p.y ⊗ q.y ⊕ p.z ⊗ q.z))
 
-  -- the same with the other sign
-  abbrev pub opposite_dot : Four E → Four E → E
-  opposite_dot p q = p.x ⊗ q.x ⊕ (p.y ⊗ q.y ⊕ p.z ⊗ q.z) ⊕ ⊖ (p.t ⊗ q.t)
-
   -- the sum of the products of the components
   abbrev pub plain_dot : Four E → Four E → E
-  plain_dot p q = p.t ⊗ q.t ⊕ (p.x ⊗ q.x ⊕ (p.y ⊗ q.y ⊕ p.z ⊗ q.z))
+  plain_dot p q = (p.t ⊗ q.t ⊕ p.x ⊗ q.x) ⊕ (p.y ⊗ q.y ⊕ p.z ⊗ q.z)
 
   -- p + q
   abbrev pub plus_four : Four E → Four E → Four E
   plus_four p q = record { t = p.t ⊕ q.t; x = p.x ⊕ q.x; y = p.y ⊕ q.y; z = p.z ⊕ q.z }
 
-  -- p - q
-  abbrev pub difference : Four E → Four E → Four E
-  difference p q = record { t = p.t ⊕ ⊖ q.t; x = p.x ⊕ ⊖ q.x; y = p.y ⊕ ⊖ q.y; z = p.z ⊕ ⊖ q.z }
-
   -- p - q with its index lowered
   abbrev pub lower_difference : Four E → Four E → Four E
   lower_difference p q = record { t = p.t ⊕ ⊖ q.t; x = q.x ⊕ ⊖ p.x; y = q.y ⊕ ⊖ p.y; z = q.z ⊕ ⊖ p.z }
 
-  -- p with its index lowered
-  abbrev pub lowered : Four E → Four E
-  lowered p = record { t = p.t; x = ⊖ p.x; y = ⊖ p.y; z = ⊖ p.z }
+  -- minus p, its index lowered or raised
+  abbrev pub turned_back : Four E → Four E
+  turned_back p = record { t = ⊖ p.t; x = p.x; y = p.y; z = p.z }
 
   -- c p
   abbrev pub scaled : E → Four E → Four E
@@ -67,9 +59,9 @@ module _ {E : Type 0} (o : Ops E) where
   abbrev pub scaled_lower : E → Four E → Four E
   scaled_lower c p = record { t = c ⊗ p.t; x = (⊖ c) ⊗ p.x; y = (⊖ c) ⊗ p.y; z = (⊖ c) ⊗ p.z }
 
-  -- p + c q
+  -- c q + p
   abbrev pub along : E → Four E → Four E → Four E
-  along c p q = record { t = p.t ⊕ c ⊗ q.t; x = p.x ⊕ c ⊗ q.x; y = p.y ⊕ c ⊗ q.y; z = p.z ⊕ c ⊗ q.z }
+  along c p q = record { t = c ⊗ q.t ⊕ p.t; x = c ⊗ q.x ⊕ p.x; y = c ⊗ q.y ⊕ p.y; z = c ⊗ q.z ⊕ p.z }
 
   -- c (a + b gamma5) times a column, or a row times it
   abbrev pub chiral : E → Factors E → Four E → Four E
@@ -126,12 +118,21 @@ module _ {E : Type 0} (o : Ops E) where
 
   -- what pairs of metrics give at slot 4, with the vectors p, q, r in the slots 1, 2, 3
   abbrev pub join_pairs : Pairs E → Four E → Four E → Four E → Four E
-  join_pairs f p q r = lowered (along (f.last ⊗ dot q r) (along (f.crossed ⊗ dot p r) (scaled (f.next ⊗ dot p q) r) q) p)
+  join_pairs f p q r =
+      let p_back = turned_back p in
+      let q_back = turned_back q in
+      let of_r = f.next ⊗ plain_dot p_back q in
+      let of_q = f.crossed ⊗ plain_dot p_back r in
+      let of_p = f.last ⊗ plain_dot q_back r in
+      along of_p (along of_q (scaled of_r (turned_back r)) q_back) p_back
 
   -- what three vectors in cyclic order give at the last slot, where h is the momentum
   abbrev pub three_gluons : E → Entering E → Entering E → Four E → Four E
   three_gluons c p q h =
-      let first = difference p.momentum q.momentum in
-      let second = difference q.momentum h in
-      lowered (
-      along (c ⊗ opposite_dot (plus_four first second) q.wave) (along (c ⊗ dot second p.wave) (scaled (c ⊗ dot p.wave q.wave) first) q.wave) p.wave)
+      let first = lower_difference p.momentum q.momentum in
+      let second = lower_difference q.momentum h in
+      let p_back = turned_back p.wave in
+      let of_first = (⊖ c) ⊗ plain_dot p_back q.wave in
+      let of_q = (⊖ c) ⊗ plain_dot second p.wave in
+      let of_p = c ⊗ plain_dot (plus_four first second) q.wave in
+      along of_p (along of_q (scaled of_first first) (turned_back q.wave)) p_back

@@ -4,7 +4,7 @@ use Rattle.om_ring.specs.Ops.{Ops}
 use Rattle.om_lorentz.specs.declared.vectors.Four.{Four}
 use Rattle.om_kernel.specs.declared.waves.Wave.{Wave}
 use Rattle.om_kernel.specs.declared.waves.Wave.TheVariants.{Scalar, Row, Column, Vector}
-use Rattle.om_kernel.specs.Components.{along, plain_dot, scaled, slash_column}
+use Rattle.om_kernel.specs.Components.{along, plain_dot, scaled, slash_column, turned_back}
 
 module _ {E : Type 0} (o : Ops E) where
   open o use {imag as 𝕚, minus as ⊖◌, times as ◌⊗◌}
@@ -20,17 +20,13 @@ module _ {E : Type 0} (o : Ops E) where
   abbrev pub row_momentum : Four E → Four E
   row_momentum p = record { t = ⊖ p.t; x = p.x; y = ⊖ p.y; z = p.z }
 
-  -- -g w, where w has lower components
-  abbrev pub raised_back : Four E → Four E
-  raised_back w = record { t = ⊖ w.t; x = w.x; y = w.y; z = w.z }
-
   -- -i f g w
   abbrev pub massless_form : E → Four E → Four E
-  massless_form f w = scaled o (𝕚 ⊗ f) (raised_back w)
+  massless_form f w = scaled o (𝕚 ⊗ f) (turned_back o w)
 
   -- -i f (g w - p (p w) / m^2), where k is 1/m
   abbrev pub massive_form : E → E → Four E → Four E → Four E
-  massive_form k f p w = scaled o (𝕚 ⊗ f) (along o (k ⊗ k ⊗ plain_dot o p w) (raised_back w) p)
+  massive_form k f p w = scaled o (𝕚 ⊗ f) (along o (k ⊗ k ⊗ plain_dot o p w) (turned_back o w) p)
 
   -- what a wave becomes, where k is 1/m
   abbrev pub edge_form : E → E → Bool → E → Four E → Wave E → Wave E

@@ -13,7 +13,7 @@ use Rattle.om_kernel.specs.declared.gluons.Entering.{Entering}
 use Rattle.om_kernel.specs.declared.gluons.Pairs.{Pairs}
 use Rattle.om_kernel.specs.declared.waves.Wave.{Wave}
 use Rattle.om_kernel.specs.declared.waves.Wave.TheVariants.{Scalar, Row, Column, Vector}
-use Rattle.om_kernel.specs.declared.waves.Slots.{Slots}
+use Rattle.om_kernel.specs.Slots.{Slots}
 use Rattle.om_kernel.specs.IndexSums.{momenta_of, wave_at}
 use Rattle.om_kernel.specs.Components.{scalar_in, four_in, dot, plain_dot, lower_difference, scaled, scaled_lower, chiral, chiral_dot, current, slash_column, slash_row, join_pairs, three_gluons}
 

@@ -10,7 +10,7 @@ use Rattle.om_lorentz.specs.declared.vectors.Momenta.{Momenta}
 use Rattle.om_lorentz.specs.Entries.{entry}
 use Rattle.om_lorentz.specs.Structures.{IsSlot}
 use Rattle.om_kernel.specs.declared.waves.Wave.{Wave}
-use Rattle.om_kernel.specs.declared.waves.Slots.{Slots}
+use Rattle.om_kernel.specs.Slots.{Slots}
 use Rattle.om_kernel.specs.Waves.{component, wave_indices, Kind, a_scalar, a_row, a_column, a_vector, held_kind}
 
 -- the wave in a slot, counted from 1

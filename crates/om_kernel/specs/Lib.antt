@@ -1,4 +1,5 @@
 pub mod Waves
+pub mod Slots
 pub mod IndexSums
 pub mod Components
 pub mod Forms

@@ -2,12 +2,12 @@
 ghost use Rattle.std.specs.Prelude.{◌≡◌, ℕ, ◌+◌, ◌*◌, ◌≤◌};
 ghost use Rattle.om_lorentz.specs.Propagators.{MassAgrees};
 ghost use Rattle.om_lorentz.specs.Structures.{IsIndex};
-ghost use Rattle.om_kernel.specs.EdgeForms.{massive_form, massless_form, raised_back, row_momentum, spinor_form};
+ghost use Rattle.om_kernel.specs.EdgeForms.{massive_form, massless_form, row_momentum, spinor_form};
 ghost use Rattle.om_kernel.specs.EdgeSums.{calls_to_propagate, edge_sum, spin_of};
 ghost use Rattle.om_kernel.specs.Waves.{component, kind_of};
 
 use crate::spinors::slash_column;
-use crate::vectors::{along, plain_dot, scaled};
+use crate::vectors::{along, plain_dot, scaled, turned_back};
 use crate::waves::Wave;
 use om_lorentz::Four;
 use om_ring::ring::Ring;
@@ -46,19 +46,6 @@ fn propagate_spinor<R: Ring<Mark = L>, L>(
     scaled(ring, turned, &sum, steps)
 }
 
-/// Minus the vector w, whose index is raised: -g w.
-fn raised_back<R: Ring<Mark = L>, L>(ring: &R, w: &Four<R::E>, steps: &mut Steps<L>) -> Four<R::E>
-    ensures value { result ≡ raised_back (R.ops ring.now) w.now }
-    ensures at_most { steps.new ≤ steps.old + R.cost ring.now }
-{
-    Four {
-        t: ring.neg(w.t, steps),
-        x: w.x,
-        y: w.y,
-        z: w.z,
-    }
-}
-
 /// The vector -i factor g w.
 fn propagate_massless<R: Ring<Mark = L>, L>(
     ring: &R,
@@ -69,7 +56,7 @@ fn propagate_massless<R: Ring<Mark = L>, L>(
     ensures value { result ≡ massless_form (R.ops ring.now) factor w.now }
     ensures at_most { steps.new ≤ steps.old + 6 * R.cost ring.now }
 {
-    let back = raised_back(ring, w, steps);
+    let back = turned_back(ring, w, steps);
     let turned = ring.mul(ring.imag(), factor, steps);
     scaled(ring, turned, &back, steps)
 }
@@ -89,7 +76,7 @@ fn propagate_massive<R: Ring<Mark = L>, L>(
     let product = plain_dot(ring, p, w, steps);
     let square = ring.mul(inverse_mass, inverse_mass, steps);
     let part = ring.mul(square, product, steps);
-    let back = raised_back(ring, w, steps);
+    let back = turned_back(ring, w, steps);
     let sum = along(ring, part, &back, p, steps);
     let turned = ring.mul(ring.imag(), factor, steps);
     scaled(ring, turned, &sum, steps)

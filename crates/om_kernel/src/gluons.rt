@@ -2,7 +2,7 @@
 ghost use Rattle.std.specs.Prelude.{◌≡◌, ◌+◌, ◌*◌, ◌≤◌};
 ghost use Rattle.om_kernel.specs.Components.{join_pairs, three_gluons};
 
-use crate::vectors::{along, difference, dot, lowered, opposite_dot, plus_four, scaled};
+use crate::vectors::{along, lower_difference, plain_dot, plus_four, scaled, turned_back};
 use om_lorentz::Four;
 use om_ring::ring::Ring;
 use om_ring::steps::Steps;
@@ -30,18 +30,20 @@ pub(crate) fn join_pairs<R: Ring<Mark = L>, L>(
     steps: &mut Steps<L>,
 ) -> Four<R::E>
     ensures value { result ≡ join_pairs (R.ops ring.now) factors.now p.now q.now r.now }
-    ensures at_most { steps.new ≤ steps.old + 50 * R.cost ring.now }
+    ensures at_most { steps.new ≤ steps.old + 47 * R.cost ring.now }
 {
-    let pq = dot(ring, p, q, steps);
-    let pr = dot(ring, p, r, steps);
-    let qr = dot(ring, q, r, steps);
+    let p_back = turned_back(ring, p, steps);
+    let q_back = turned_back(ring, q, steps);
+    let r_back = turned_back(ring, r, steps);
+    let pq = plain_dot(ring, &p_back, q, steps);
+    let pr = plain_dot(ring, &p_back, r, steps);
+    let qr = plain_dot(ring, &q_back, r, steps);
     let of_r = ring.mul(factors.next, pq, steps);
     let of_q = ring.mul(factors.crossed, pr, steps);
     let of_p = ring.mul(factors.last, qr, steps);
-    let one = scaled(ring, of_r, r, steps);
-    let two = along(ring, of_q, &one, q, steps);
-    let three = along(ring, of_p, &two, p, steps);
-    lowered(ring, &three, steps)
+    let one = scaled(ring, of_r, &r_back, steps);
+    let two = along(ring, of_q, &one, &q_back, steps);
+    along(ring, of_p, &two, &p_back, steps)
 }
 
 /// A vector and the momentum that enters with it.
@@ -63,19 +65,21 @@ pub(crate) fn three_gluons<R: Ring<Mark = L>, L>(
     steps: &mut Steps<L>,
 ) -> Four<R::E>
     ensures value { result ≡ three_gluons (R.ops ring.now) c p.now q.now hole.now }
-    ensures at_most { steps.new ≤ steps.old + 70 * R.cost ring.now }
+    ensures at_most { steps.new ≤ steps.old + 67 * R.cost ring.now }
 {
-    let first = difference(ring, &p.momentum, &q.momentum, steps);
-    let second = difference(ring, &q.momentum, hole, steps);
+    let first = lower_difference(ring, &p.momentum, &q.momentum, steps);
+    let second = lower_difference(ring, &q.momentum, hole, steps);
     let both = plus_four(ring, &first, &second, steps);
-    let pq = dot(ring, &p.wave, &q.wave, steps);
-    let of_second = dot(ring, &second, &p.wave, steps);
-    let of_third = opposite_dot(ring, &both, &q.wave, steps);
-    let of_first = ring.mul(c, pq, steps);
-    let of_q = ring.mul(c, of_second, steps);
+    let p_back = turned_back(ring, &p.wave, steps);
+    let q_back = turned_back(ring, &q.wave, steps);
+    let pq = plain_dot(ring, &p_back, &q.wave, steps);
+    let of_second = plain_dot(ring, &second, &p.wave, steps);
+    let of_third = plain_dot(ring, &both, &q.wave, steps);
+    let c_back = ring.neg(c, steps);
+    let of_first = ring.mul(c_back, pq, steps);
+    let of_q = ring.mul(c_back, of_second, steps);
     let of_p = ring.mul(c, of_third, steps);
     let one = scaled(ring, of_first, &first, steps);
-    let two = along(ring, of_q, &one, &q.wave, steps);
-    let three = along(ring, of_p, &two, &p.wave, steps);
-    lowered(ring, &three, steps)
+    let two = along(ring, of_q, &one, &q_back, steps);
+    along(ring, of_p, &two, &p_back, steps)
 }

@@ -21,7 +21,7 @@ pub mod waves;
 pub use edges::propagate;
 pub use vectors::plus_four;
 pub use vertices::{close, fuse};
-pub use waves::{Slot, Slots, Wave};
+pub use waves::{Place, Places, Slots, Wave};
 
 #[cfg(test)]
 mod edge_tests;

@@ -46,18 +46,15 @@ pub(crate) fn chiral_dot<R: Ring<Mark = L>, L>(
     ensures at_most { steps.new ≤ steps.old + 12 * R.cost ring.now }
 {
     let (a, b) = (factors.a, factors.b);
-    let t = ring.mul(r.t, d.t, steps);
     let x = ring.mul(r.x, d.x, steps);
-    let y = ring.mul(r.y, d.y, steps);
     let z = ring.mul(r.z, d.z, steps);
-    let upper = ring.add(t, x, steps);
-    let lower = ring.add(y, z, steps);
+    let upper = ring.multiply_add(r.t, d.t, x, steps);
+    let lower = ring.multiply_add(r.y, d.y, z, steps);
     let b_back = ring.neg(b, steps);
     let difference = ring.add(a, b_back, steps);
     let sum = ring.add(a, b, steps);
-    let left = ring.mul(difference, upper, steps);
     let right = ring.mul(sum, lower, steps);
-    ring.add(left, right, steps)
+    ring.multiply_add(difference, upper, right, steps)
 }
 
 /// The row times gamma_mu times the column, with the lower index mu.
@@ -71,16 +68,14 @@ pub(crate) fn current<R: Ring<Mark = L>, L>(
     ensures value { result ≡ current (R.ops ring.now) r.now d.now }
     ensures at_most { steps.new ≤ steps.old + 22 * R.cost ring.now }
 {
-    let ty = ring.mul(r.t, d.y, steps);
-    let xz = ring.mul(r.x, d.z, steps);
     let yt = ring.mul(r.y, d.t, steps);
     let zx = ring.mul(r.z, d.x, steps);
     let tz = ring.mul(r.t, d.z, steps);
     let xy = ring.mul(r.x, d.y, steps);
     let yx = ring.mul(r.y, d.x, steps);
     let zt = ring.mul(r.z, d.t, steps);
-    let outer = ring.add(ty, zx, steps);
-    let inner = ring.add(xz, yt, steps);
+    let outer = ring.multiply_add(r.t, d.y, zx, steps);
+    let inner = ring.multiply_add(r.x, d.z, yt, steps);
     let outer_back = ring.neg(outer, steps);
     let upper = ring.add(tz, xy, steps);
     let lower = ring.add(yx, zt, steps);
@@ -148,21 +143,17 @@ pub(crate) fn slash_column<R: Ring<Mark = L>, L>(
         up,
         down,
     } = slash_entries(ring, v, steps);
-    let low_y = ring.mul(low, d.y, steps);
     let down_z = ring.mul(down, d.z, steps);
     let down_z_back = ring.neg(down_z, steps);
-    let high_z = ring.mul(high, d.z, steps);
     let up_y = ring.mul(up, d.y, steps);
     let up_y_back = ring.neg(up_y, steps);
-    let high_t = ring.mul(high, d.t, steps);
     let down_x = ring.mul(down, d.x, steps);
-    let up_t = ring.mul(up, d.t, steps);
     let low_x = ring.mul(low, d.x, steps);
     Four {
-        t: ring.add(low_y, down_z_back, steps),
-        x: ring.add(high_z, up_y_back, steps),
-        y: ring.add(high_t, down_x, steps),
-        z: ring.add(up_t, low_x, steps),
+        t: ring.multiply_add(low, d.y, down_z_back, steps),
+        x: ring.multiply_add(high, d.z, up_y_back, steps),
+        y: ring.multiply_add(high, d.t, down_x, steps),
+        z: ring.multiply_add(up, d.t, low_x, steps),
     }
 }
 
@@ -183,20 +174,16 @@ pub(crate) fn slash_row<R: Ring<Mark = L>, L>(
         up,
         down,
     } = slash_entries(ring, v, steps);
-    let high_y = ring.mul(high, r.y, steps);
     let up_z = ring.mul(up, r.z, steps);
-    let down_y = ring.mul(down, r.y, steps);
     let low_z = ring.mul(low, r.z, steps);
-    let low_t = ring.mul(low, r.t, steps);
     let up_x = ring.mul(up, r.x, steps);
     let up_x_back = ring.neg(up_x, steps);
-    let high_x = ring.mul(high, r.x, steps);
     let down_t = ring.mul(down, r.t, steps);
     let down_t_back = ring.neg(down_t, steps);
     Four {
-        t: ring.add(high_y, up_z, steps),
-        x: ring.add(down_y, low_z, steps),
-        y: ring.add(low_t, up_x_back, steps),
-        z: ring.add(high_x, down_t_back, steps),
+        t: ring.multiply_add(high, r.y, up_z, steps),
+        x: ring.multiply_add(down, r.y, low_z, steps),
+        y: ring.multiply_add(low, r.t, up_x_back, steps),
+        z: ring.multiply_add(high, r.x, down_t_back, steps),
     }
 }

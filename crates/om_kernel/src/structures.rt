@@ -6,6 +6,7 @@ ghost use Rattle.std.specs.Prelude.{◌≡◌, ◌+◌, ◌*◌, ◌≤◌};
 ghost use Rattle.om_lorentz.specs.Structures.{slot_count};
 ghost use Rattle.om_kernel.specs.Calls.{calls_to_fuse};
 ghost use Rattle.om_kernel.specs.Forms.{coupling, fused};
+ghost use Rattle.om_kernel.specs.Slots.{filled};
 
 mod fermions;
 mod gauge;
@@ -72,7 +73,7 @@ pub(crate) fn fused<R: Ring<Mark = L>, L>(
 ) -> Wave<R::E>
     requires low { 1 ≤ hole }
     requires high { hole ≤ slot_count structure }
-    ensures value { result ≡ fused (R.ops ring.now) factors.now slots.now structure reading hole }
+    ensures value { let o = R.ops ring.now in result ≡ fused o factors.now (filled o slots.now) structure reading hole }
     ensures at_most { steps.new ≤ steps.old + calls_to_fuse structure hole * R.cost ring.now }
 {
     match structure {

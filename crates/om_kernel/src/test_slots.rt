@@ -1,11 +1,13 @@
 //! Slots of vertices that hold whole numbers, for tests.
-ghost use Rattle.std.specs.Prelude.{◌≡◌, ◌≢◌, ◌≤◌, None};
+ghost use Rattle.std.specs.Prelude.{◌≡◌, ◌≢◌, ◌≤◌, None, option_map, unwrap_or};
 ghost use Rattle.om_lorentz.specs.Structures.{IsSlot};
 ghost use Rattle.om_kernel.specs.IndexSums.{Fits, FitsAll, slot_kind};
+ghost use Rattle.om_kernel.specs.Slots.{slots_at};
 ghost use Rattle.om_kernel.specs.Waves.{held_kind};
+ghost use Rattle.om_ring.specs.ZpOps.{zp};
 
 use crate::test_waves::four;
-use crate::waves::{Slot, Slots, Wave};
+use crate::waves::{Place, Places, Wave};
 use om_lorentz::{Factors, Four, Structure};
 use om_ring::{Elem, Ring, Zp};
 
@@ -72,35 +74,71 @@ fn wave_in(structure: Structure, slot: u8) -> Option<Wave<Elem>>
     }
 }
 
-// A slot with a wave of its kind, or with none where it is the hole.
-fn slot_of(structure: Structure, slot: u8, hole: u8) -> Slot<Elem>
+// The wave of a slot, none where it is the hole.
+fn wave_beside(structure: Structure, slot: u8, hole: u8) -> Option<Wave<Elem>>
     requires { IsSlot slot }
-    ensures beside { slot ≢ hole → held_kind result.wave ≡ slot_kind structure slot }
-    ensures empty { slot ≡ hole → result.wave ≡ None }
+    ensures beside { slot ≢ hole → held_kind result ≡ slot_kind structure slot }
+    ensures empty { slot ≡ hole → result ≡ None }
 {
-    let momentum = momentum(slot);
     if slot == hole {
-        return Slot {
-            wave: None,
-            momentum,
-        };
+        return None;
     }
-    Slot {
-        wave: wave_in(structure, slot),
-        momentum,
+    wave_in(structure, slot)
+}
+
+// The place with a number, of a wave if there is one.
+fn place(number: u32, wave: &Option<Wave<Elem>>) -> Place
+    ensures { result.wave ≡ option_map (λ w. number) wave.now }
+{
+    Place {
+        wave: match wave {
+            Some(_) => Some(number),
+            None => None,
+        },
+        momentum: number,
     }
 }
 
-// The slots of a vertex with a hole, or with none where `hole` is 0.
-pub(crate) fn slots_of(structure: Structure, hole: u8) -> Slots<Elem>
-    requires { hole ≤ 4 }
-    ensures hole { 1 ≤ hole → Fits structure hole result }
-    ensures all { hole ≡ 0 → FitsAll structure result }
+fn or_zero(wave: Option<Wave<Elem>>) -> Wave<Elem>
+    ensures { result ≡ unwrap_or wave (Wave.Scalar zp.zero) }
 {
-    Slots {
-        first: slot_of(structure, 1, hole),
-        second: slot_of(structure, 2, hole),
-        third: slot_of(structure, 3, hole),
-        fourth: slot_of(structure, 4, hole),
+    match wave {
+        Some(found) => found,
+        None => Wave::Scalar(Zp.zero()),
+    }
+}
+
+/// Waves and momenta, and the places of the slots of a vertex among them.
+#[derive(Clone, Copy)]
+pub(crate) struct Held {
+    pub(crate) waves: [Wave<Elem>; 4],
+    pub(crate) momenta: [Four<Elem>; 4],
+    pub(crate) places: Places,
+}
+
+// The slots of a vertex with a hole, or with none where `hole` is 0.
+pub(crate) fn slots_of(structure: Structure, hole: u8) -> Held
+    requires { hole ≤ 4 }
+    ensures hole { 1 ≤ hole → Fits structure hole (slots_at zp result.waves result.momenta result.places) }
+    ensures all { hole ≡ 0 → FitsAll structure (slots_at zp result.waves result.momenta result.places) }
+{
+    let first = wave_beside(structure, 1, hole);
+    let second = wave_beside(structure, 2, hole);
+    let third = wave_beside(structure, 3, hole);
+    let fourth = wave_beside(structure, 4, hole);
+    Held {
+        waves: [
+            or_zero(first),
+            or_zero(second),
+            or_zero(third),
+            or_zero(fourth),
+        ],
+        momenta: [momentum(1), momentum(2), momentum(3), momentum(4)],
+        places: Places {
+            first: place(0, &first),
+            second: place(1, &second),
+            third: place(2, &third),
+            fourth: place(3, &fourth),
+        },
     }
 }

@@ -2,9 +2,9 @@
 ghost use Rattle.std.specs.Prelude.{◌≡◌, ◌≤◌, length, IsTrue};
 ghost use Rattle.om_lorentz.specs.Structures.{HasIndices, IsReading, IsSlot, slot_indices};
 
-use crate::test_slots::{factors, slots_of};
+use crate::test_slots::{Held, factors, slots_of};
 use crate::test_waves::component;
-use crate::waves::{Slot, Slots};
+use crate::waves::{Place, Wave};
 use om_lorentz::{Momenta, Reading, Structure, entry};
 use om_ring::{Book, Elem, Ring, Steps, Zp};
 
@@ -39,25 +39,28 @@ pub(crate) fn index_count(structure: Structure, slot: u8) -> u8
 }
 
 // What a slot multiplies at an index: its component, or 1 where it has no wave.
-fn weight(slot: &Slot<Elem>, index: u8) -> Elem {
-    match slot.wave {
-        Some(wave) => component(&wave, index),
+fn weight(wave: &Wave<Elem>, place: Place, index: u8) -> Elem {
+    match place.wave {
+        Some(_) => component(wave, index),
         None => Zp.one(),
     }
 }
 
 // One summand of an index sum.
-fn summand(structure: Structure, reading: Reading, slots: &Slots<Elem>, indices: [u8; 4]) -> Elem
+fn summand(structure: Structure, reading: Reading, held: &Held, indices: [u8; 4]) -> Elem
     requires in_range { HasIndices structure indices }
     requires reads { IsReading structure reading }
 {
     let mut steps = Steps::new(Book);
+    let [first, second, third, fourth] = held.momenta;
     let momenta = Momenta {
-        first: slots.first.momentum,
-        second: slots.second.momentum,
-        third: slots.third.momentum,
-        fourth: slots.fourth.momentum,
+        first,
+        second,
+        third,
+        fourth,
     };
+    let [one, two, three, four] = &held.waves;
+    let places = &held.places;
     let mut product = entry(
         &Zp,
         structure,
@@ -67,10 +70,10 @@ fn summand(structure: Structure, reading: Reading, slots: &Slots<Elem>, indices:
         indices,
         &mut steps,
     );
-    product = Zp.mul(product, weight(&slots.first, indices[0]), &mut steps);
-    product = Zp.mul(product, weight(&slots.second, indices[1]), &mut steps);
-    product = Zp.mul(product, weight(&slots.third, indices[2]), &mut steps);
-    Zp.mul(product, weight(&slots.fourth, indices[3]), &mut steps)
+    product = Zp.mul(product, weight(one, places.first, indices[0]), &mut steps);
+    product = Zp.mul(product, weight(two, places.second, indices[1]), &mut steps);
+    product = Zp.mul(product, weight(three, places.third, indices[2]), &mut steps);
+    Zp.mul(product, weight(four, places.fourth, indices[3]), &mut steps)
 }
 
 // Whether each slot has the index, and the hole, where there is one, the index n.
@@ -98,7 +101,7 @@ pub(crate) fn slow_sum(structure: Structure, reading: Reading, hole: u8, n: u8) 
     requires reads { IsReading structure reading }
 {
     let mut steps = Steps::new(Book);
-    let slots = slots_of(structure, hole);
+    let held = slots_of(structure, hole);
     let mut total = Zp.zero();
     for code in 0..256u32 {
         let indices = [
@@ -108,7 +111,7 @@ pub(crate) fn slow_sum(structure: Structure, reading: Reading, hole: u8, n: u8) 
             (code % 4) as u8,
         ];
         if has_indices(structure, indices, hole, n) {
-            let part = summand(structure, reading, &slots, indices);
+            let part = summand(structure, reading, &held, indices);
             total = Zp.add(total, part, &mut steps);
         }
     }

@@ -5,7 +5,7 @@ ghost use Rattle.om_lorentz.specs.Structures.{IsReading, slot_count};
 use crate::test_slots::{factors, slots_of};
 use crate::test_sums::{index_count, slow_sum};
 use crate::test_waves::{component, four};
-use crate::waves::{Slot, Slots, Wave};
+use crate::waves::{Place, Places, Slots, Wave};
 use crate::{close, fuse};
 use om_lorentz::{Factors, Reading, Structure};
 use om_ring::{Book, Elem, Ring, Steps, Zp};
@@ -20,7 +20,12 @@ fn fused_calls(structure: Structure, reading: Reading, hole: u8) -> Option<u64>
     requires reads { IsReading structure reading }
 {
     let mut steps = Steps::new(Book);
-    let slots = slots_of(structure, hole);
+    let held = slots_of(structure, hole);
+    let slots = Slots {
+        waves: &held.waves,
+        momenta: &held.momenta,
+        places: &held.places,
+    };
     let wave = fuse(
         &Zp,
         structure,
@@ -43,7 +48,12 @@ fn closed_calls(structure: Structure, reading: Reading) -> Option<u64>
     requires reads { IsReading structure reading }
 {
     let mut steps = Steps::new(Book);
-    let slots = slots_of(structure, 0);
+    let held = slots_of(structure, 0);
+    let slots = Slots {
+        waves: &held.waves,
+        momenta: &held.momenta,
+        places: &held.places,
+    };
     let value = close(&Zp, structure, reading, &factors(), &slots, &mut steps);
     if value.get() != slow_sum(structure, reading, 0, 0).get() {
         return None;
@@ -81,12 +91,12 @@ fn spinors(rt: HostRuntime) {
 
 #[test]
 fn vectors(rt: HostRuntime) {
-    assert!(rt; takes(Structure::Vvv, [1, 2, 3, 0], [71, 71, 71, 0], 78));
-    assert!(rt; takes(Structure::Vvv, [2, 1, 3, 0], [71, 71, 71, 0], 78));
-    assert!(rt; takes(Structure::Vvvv, [1, 2, 3, 4], [53, 53, 53, 53], 60));
-    assert!(rt; takes(Structure::Gluon4, [1, 2, 3, 4], [53, 53, 53, 53], 60));
-    assert!(rt; takes(Structure::Gluon4, [3, 1, 2, 4], [53, 53, 53, 53], 60));
-    assert!(rt; takes(Structure::Gluon4, [2, 4, 3, 1], [53, 53, 53, 53], 60));
+    assert!(rt; takes(Structure::Vvv, [1, 2, 3, 0], [68, 68, 68, 0], 75));
+    assert!(rt; takes(Structure::Vvv, [2, 1, 3, 0], [68, 68, 68, 0], 75));
+    assert!(rt; takes(Structure::Vvvv, [1, 2, 3, 4], [50, 50, 50, 50], 57));
+    assert!(rt; takes(Structure::Gluon4, [1, 2, 3, 4], [50, 50, 50, 50], 57));
+    assert!(rt; takes(Structure::Gluon4, [3, 1, 2, 4], [50, 50, 50, 50], 57));
+    assert!(rt; takes(Structure::Gluon4, [2, 4, 3, 1], [50, 50, 50, 50], 57));
 }
 
 // The row (1, 0, 0, 0) and the column (0, 0, 1, 0) with the factors 1 and 0, without momenta.
@@ -97,23 +107,27 @@ fn left_current() -> Wave<Elem> {
         b: Zp.number(0),
         c: Zp.number(0),
     };
-    let row = Slot {
-        wave: Some(Wave::Row(four(1, 0, 0, 0))),
-        momentum: zero,
-    };
-    let column = Slot {
-        wave: Some(Wave::Column(four(0, 0, 1, 0))),
-        momentum: zero,
-    };
-    let none = Slot {
+    let waves = [Wave::Row(four(1, 0, 0, 0)), Wave::Column(four(0, 0, 1, 0))];
+    let none = Place {
         wave: None,
-        momentum: zero,
+        momentum: 0,
     };
-    let slots = Slots {
-        first: row,
-        second: column,
+    let places = Places {
+        first: Place {
+            wave: Some(0),
+            momentum: 0,
+        },
+        second: Place {
+            wave: Some(1),
+            momentum: 0,
+        },
         third: none,
         fourth: none,
+    };
+    let slots = Slots {
+        waves: &waves,
+        momenta: &[zero],
+        places: &places,
     };
     let reading = Reading {
         slots: [1, 2, 3, 0],

@@ -1,6 +1,6 @@
 //! Sums and products of vectors by components.
 ghost use Rattle.std.specs.Prelude.{◌≡◌, ◌+◌, ◌*◌, ◌≤◌};
-ghost use Rattle.om_kernel.specs.Components.{along, difference, dot, lower_difference, lowered, opposite_dot, plain_dot, plus_four, scaled, scaled_lower};
+ghost use Rattle.om_kernel.specs.Components.{along, dot, lower_difference, plain_dot, plus_four, scaled, scaled_lower, turned_back};
 
 use om_lorentz::Four;
 use om_ring::ring::Ring;
@@ -18,11 +18,9 @@ fn space_dot<R: Ring<Mark = L>, L>(
         result ≡ o.plus (o.times p.now.x q.now.x) (o.plus (o.times p.now.y q.now.y) (o.times p.now.z q.now.z)) }
     ensures at_most { steps.new ≤ steps.old + 5 * R.cost ring.now }
 {
-    let x = ring.mul(p.x, q.x, steps);
-    let y = ring.mul(p.y, q.y, steps);
     let z = ring.mul(p.z, q.z, steps);
-    let yz = ring.add(y, z, steps);
-    ring.add(x, yz, steps)
+    let yz = ring.multiply_add(p.y, q.y, z, steps);
+    ring.multiply_add(p.x, q.x, yz, steps)
 }
 
 /// p0 q0 - p1 q1 - p2 q2 - p3 q3.
@@ -36,27 +34,9 @@ pub(crate) fn dot<R: Ring<Mark = L>, L>(
     ensures value { result ≡ dot (R.ops ring.now) p.now q.now }
     ensures at_most { steps.new ≤ steps.old + 8 * R.cost ring.now }
 {
-    let time = ring.mul(p.t, q.t, steps);
     let space = space_dot(ring, p, q, steps);
     let back = ring.neg(space, steps);
-    ring.add(time, back, steps)
-}
-
-/// The same with the other sign.
-#[inline(always)]
-pub(crate) fn opposite_dot<R: Ring<Mark = L>, L>(
-    ring: &R,
-    p: &Four<R::E>,
-    q: &Four<R::E>,
-    steps: &mut Steps<L>,
-) -> R::E
-    ensures value { result ≡ opposite_dot (R.ops ring.now) p.now q.now }
-    ensures at_most { steps.new ≤ steps.old + 8 * R.cost ring.now }
-{
-    let time = ring.mul(p.t, q.t, steps);
-    let space = space_dot(ring, p, q, steps);
-    let back = ring.neg(time, steps);
-    ring.add(space, back, steps)
+    ring.multiply_add(p.t, q.t, back, steps)
 }
 
 /// The sum of the products of the components, for an index that stands above once and below once.
@@ -70,9 +50,7 @@ pub(crate) fn plain_dot<R: Ring<Mark = L>, L>(
     ensures value { result ≡ plain_dot (R.ops ring.now) p.now q.now }
     ensures at_most { steps.new ≤ steps.old + 7 * R.cost ring.now }
 {
-    let time = ring.mul(p.t, q.t, steps);
-    let space = space_dot(ring, p, q, steps);
-    ring.add(time, space, steps)
+    ring.dot4(p.t, q.t, p.x, q.x, p.y, q.y, p.z, q.z, steps)
 }
 
 /// p + q.
@@ -104,25 +82,6 @@ fn minus<R: Ring<Mark = L>, L>(ring: &R, x: R::E, y: R::E, steps: &mut Steps<L>)
     ring.add(x, back, steps)
 }
 
-/// p - q.
-#[inline(always)]
-pub(crate) fn difference<R: Ring<Mark = L>, L>(
-    ring: &R,
-    p: &Four<R::E>,
-    q: &Four<R::E>,
-    steps: &mut Steps<L>,
-) -> Four<R::E>
-    ensures value { result ≡ difference (R.ops ring.now) p.now q.now }
-    ensures at_most { steps.new ≤ steps.old + 8 * R.cost ring.now }
-{
-    Four {
-        t: minus(ring, p.t, q.t, steps),
-        x: minus(ring, p.x, q.x, steps),
-        y: minus(ring, p.y, q.y, steps),
-        z: minus(ring, p.z, q.z, steps),
-    }
-}
-
 /// p - q with its index lowered: the space components are turned round in place of a sign.
 #[inline(always)]
 pub(crate) fn lower_difference<R: Ring<Mark = L>, L>(
@@ -142,21 +101,21 @@ pub(crate) fn lower_difference<R: Ring<Mark = L>, L>(
     }
 }
 
-/// p with its index lowered.
+/// Minus p, its index lowered or raised: the time component alone changes its sign.
 #[inline(always)]
-pub(crate) fn lowered<R: Ring<Mark = L>, L>(
+pub(crate) fn turned_back<R: Ring<Mark = L>, L>(
     ring: &R,
     p: &Four<R::E>,
     steps: &mut Steps<L>,
 ) -> Four<R::E>
-    ensures value { result ≡ lowered (R.ops ring.now) p.now }
-    ensures at_most { steps.new ≤ steps.old + 3 * R.cost ring.now }
+    ensures value { result ≡ turned_back (R.ops ring.now) p.now }
+    ensures at_most { steps.new ≤ steps.old + R.cost ring.now }
 {
     Four {
-        t: p.t,
-        x: ring.neg(p.x, steps),
-        y: ring.neg(p.y, steps),
-        z: ring.neg(p.z, steps),
+        t: ring.neg(p.t, steps),
+        x: p.x,
+        y: p.y,
+        z: p.z,
     }
 }
 
@@ -211,6 +170,10 @@ pub(crate) fn along<R: Ring<Mark = L>, L>(
     ensures value { result ≡ along (R.ops ring.now) c p.now q.now }
     ensures at_most { steps.new ≤ steps.old + 8 * R.cost ring.now }
 {
-    let part = scaled(ring, c, q, steps);
-    plus_four(ring, p, &part, steps)
+    Four {
+        t: ring.multiply_add(c, q.t, p.t, steps),
+        x: ring.multiply_add(c, q.x, p.x, steps),
+        y: ring.multiply_add(c, q.y, p.y, steps),
+        z: ring.multiply_add(c, q.z, p.z, steps),
+    }
 }

@@ -4,6 +4,7 @@ ghost use Rattle.om_lorentz.specs.Structures.{IsReading, slot_count, slot_indice
 ghost use Rattle.om_kernel.specs.Calls.{calls_to_close, calls_to_contract, calls_to_fuse};
 ghost use Rattle.om_kernel.specs.Forms.{contracted};
 ghost use Rattle.om_kernel.specs.IndexSums.{Fits, FitsAll, full_sum, fused_kind, index_sum};
+ghost use Rattle.om_kernel.specs.Slots.{filled};
 ghost use Rattle.om_kernel.specs.Waves.{component, kind_of};
 
 use crate::slots::{four_at, scalar_at};
@@ -33,10 +34,10 @@ pub fn fuse<R: Ring<Mark = L>, L>(
     requires low { 1 ≤ hole }
     requires high { hole ≤ slot_count structure }
     requires reads { IsReading structure reading }
-    requires fits { Fits structure hole slots.now }
+    requires fits { let o = R.ops ring.now in Fits structure hole (filled o slots.now) }
     ensures kind { kind_of result ≡ fused_kind structure hole }
     ensures value { let o = R.ops ring.now in (n : ℕ) → n < length (slot_indices structure hole) →
-        component result n ≡ o.times o.imag (index_sum o structure reading factors.now slots.now hole n) }
+        component result n ≡ o.times o.imag (index_sum o structure reading factors.now (filled o slots.now) hole n) }
     ensures at_most { steps.new ≤ steps.old + calls_to_fuse structure hole * R.cost ring.now }
     ensures few { steps.new ≤ steps.old + 700 * R.cost ring.now }
 {
@@ -51,7 +52,7 @@ fn contracted<R: Ring<Mark = L>, L>(
     slot: u8,
     steps: &mut Steps<L>,
 ) -> R::E
-    ensures value { let o = R.ops ring.now in result ≡ contracted o slots.now wave.now slot }
+    ensures value { let o = R.ops ring.now in result ≡ contracted o (filled o slots.now) wave.now slot }
     ensures at_most { steps.new ≤ steps.old + calls_to_contract wave.now * R.cost ring.now }
 {
     match wave {
@@ -76,9 +77,9 @@ pub fn close<R: Ring<Mark = L>, L>(
     steps: &mut Steps<L>,
 ) -> R::E
     requires reads { IsReading structure reading }
-    requires fits { FitsAll structure slots.now }
+    requires fits { let o = R.ops ring.now in FitsAll structure (filled o slots.now) }
     ensures value { let o = R.ops ring.now in
-        result ≡ o.times o.imag (full_sum o structure reading factors.now slots.now) }
+        result ≡ o.times o.imag (full_sum o structure reading factors.now (filled o slots.now)) }
     ensures at_most { steps.new ≤ steps.old + calls_to_close structure * R.cost ring.now }
     ensures few { steps.new ≤ steps.old + 700 * R.cost ring.now }
 {

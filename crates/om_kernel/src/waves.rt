@@ -1,4 +1,4 @@
-//! Waves, and the slots of a vertex that hold them.
+//! Waves, and the slots of a vertex through which they enter.
 
 use om_lorentz::Four;
 
@@ -18,20 +18,28 @@ pub enum Wave<E> {
     Vector(Four<E>),
 }
 
-/// What enters a vertex through one of its slots: a wave, or none at the hole and past the vertex, and
-/// the momentum, with upper components.
+/// Where what enters a vertex through one of its slots stands: the number of its wave, none at the hole and
+/// past the vertex, and that of the momentum, with upper components.
 #[derive(Clone, Copy)]
-pub struct Slot<E> {
-    pub wave: Option<Wave<E>>,
-    pub momentum: Four<E>,
+pub struct Place {
+    pub wave: Option<u32>,
+    pub momentum: u32,
 }
 
-/// The slots of a vertex, in the order in which the structure names them. Of three slots `fourth` holds no
-/// wave, and its momentum isn't read.
+/// The places of the slots of a vertex, in the order in which the structure names them. Of three slots
+/// `fourth` has no wave, and its momentum isn't read.
 #[derive(Clone, Copy)]
-pub struct Slots<E> {
-    pub first: Slot<E>,
-    pub second: Slot<E>,
-    pub third: Slot<E>,
-    pub fourth: Slot<E>,
+pub struct Places {
+    pub first: Place,
+    pub second: Place,
+    pub third: Place,
+    pub fourth: Place,
+}
+
+/// The slots of a vertex: places among waves and momenta. A number that is out of range stands for 0.
+#[derive(Clone, Copy)]
+pub struct Slots<'a, E> {
+    pub waves: &'a [Wave<E>],
+    pub momenta: &'a [Four<E>],
+    pub places: &'a Places,
 }

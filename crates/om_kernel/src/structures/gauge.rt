@@ -3,11 +3,12 @@ ghost use Rattle.std.specs.Prelude.{◌≡◌, ◌+◌, ◌*◌, ◌≤◌};
 ghost use Rattle.om_lorentz.specs.Laws.{order};
 ghost use Rattle.om_kernel.specs.Calls.{calls_to_fuse};
 ghost use Rattle.om_kernel.specs.Forms.{entering, gluon4_pairs, pairs_form, vvv_form, vvvv_pairs};
+ghost use Rattle.om_kernel.specs.Slots.{filled};
 
 use super::coupling;
 use crate::gluons::{Entering, Pairs, join_pairs, three_gluons};
 use crate::orders::{three_before, two_before};
-use crate::slots::{four_at, four_in, momentum_at, slot_at};
+use crate::slots::{four_at, momentum_at};
 use crate::waves::{Slots, Wave};
 use om_lorentz::{Factors, Reading, Structure};
 use om_ring::ring::Ring;
@@ -21,12 +22,11 @@ const FOUR: Reading = Reading {
 // The vector in a slot with the momentum that enters there.
 #[inline(always)]
 fn entering<R: Ring>(ring: &R, slots: &Slots<R::E>, slot: u8) -> Entering<R::E>
-    ensures { result ≡ entering (R.ops ring.now) slots.now slot }
+    ensures { let o = R.ops ring.now in result ≡ entering o (filled o slots.now) slot }
 {
-    let slot = slot_at(slots, slot);
     Entering {
-        wave: four_in(ring, &slot.wave),
-        momentum: slot.momentum,
+        wave: four_at(ring, slots, slot),
+        momentum: momentum_at(ring, slots, slot),
     }
 }
 
@@ -39,13 +39,13 @@ pub(super) fn vvv<R: Ring<Mark = L>, L>(
     hole: u8,
     steps: &mut Steps<L>,
 ) -> Wave<R::E>
-    ensures value { result ≡ vvv_form (R.ops ring.now) factors.now slots.now reading hole }
+    ensures value { let o = R.ops ring.now in result ≡ vvv_form o factors.now (filled o slots.now) reading hole }
     ensures at_most { steps.new ≤ steps.old + calls_to_fuse Structure.Vvv hole * R.cost ring.now }
 {
     let (j, k) = two_before(reading, hole);
     let p = entering(ring, slots, j);
     let q = entering(ring, slots, k);
-    let there = momentum_at(slots, hole);
+    let there = momentum_at(ring, slots, hole);
     let c = coupling(ring, factors, steps);
     Wave::Vector(three_gluons(ring, c, &p, &q, &there, steps))
 }
@@ -60,8 +60,8 @@ fn paired<R: Ring<Mark = L>, L>(
     hole: u8,
     steps: &mut Steps<L>,
 ) -> Wave<R::E>
-    ensures value { result ≡ pairs_form (R.ops ring.now) slots.now factors.now reading hole }
-    ensures at_most { steps.new ≤ steps.old + 50 * R.cost ring.now }
+    ensures value { let o = R.ops ring.now in result ≡ pairs_form o (filled o slots.now) factors.now reading hole }
+    ensures at_most { steps.new ≤ steps.old + 47 * R.cost ring.now }
 {
     let (j, k, m) = three_before(reading, hole);
     let p = four_at(ring, slots, j);
@@ -107,7 +107,7 @@ pub(super) fn vvvv<R: Ring<Mark = L>, L>(
     steps: &mut Steps<L>,
 ) -> Wave<R::E>
     ensures value { let o = R.ops ring.now in
-        result ≡ pairs_form o slots.now (vvvv_pairs o factors.now hole) (order 1 2 3 4) hole }
+        result ≡ pairs_form o (filled o slots.now) (vvvv_pairs o factors.now hole) (order 1 2 3 4) hole }
     ensures at_most { steps.new ≤ steps.old + calls_to_fuse Structure.Vvvv hole * R.cost ring.now }
 {
     let factors = vvvv_pairs(ring, factors, hole, steps);
@@ -124,7 +124,7 @@ pub(super) fn gluon4<R: Ring<Mark = L>, L>(
     steps: &mut Steps<L>,
 ) -> Wave<R::E>
     ensures value { let o = R.ops ring.now in
-        result ≡ pairs_form o slots.now (gluon4_pairs o factors.now) reading hole }
+        result ≡ pairs_form o (filled o slots.now) (gluon4_pairs o factors.now) reading hole }
     ensures at_most { steps.new ≤ steps.old + calls_to_fuse Structure.Gluon4 hole * R.cost ring.now }
 {
     let c = coupling(ring, factors, steps);

@@ -3,11 +3,12 @@ ghost use Rattle.std.specs.Prelude.{◌≡◌, ◌+◌, ◌*◌, ◌≤◌};
 ghost use Rattle.om_kernel.specs.Calls.{calls_to_fuse};
 ghost use Rattle.om_kernel.specs.Components.{dot, four_in, scalar_in, scaled_lower};
 ghost use Rattle.om_kernel.specs.Forms.{coupling, four_at, one_scalar, two_scalars, vvs_form, vvss_form};
+ghost use Rattle.om_kernel.specs.Slots.{filled, wave_from};
 
 use super::{coupling, one_scalar, two_scalars};
-use crate::slots::{four_in, scalar_in};
+use crate::slots::{four_of, scalar_of};
 use crate::vectors::{dot, scaled_lower};
-use crate::waves::{Slots, Wave};
+use crate::waves::{Place, Slots, Wave};
 use om_lorentz::{Factors, Four, Structure};
 use om_ring::ring::Ring;
 use om_ring::steps::Steps;
@@ -34,15 +35,15 @@ fn vvs_vector<R: Ring<Mark = L>, L>(
     ring: &R,
     factors: &Factors<R::E>,
     slots: &Slots<R::E>,
-    other: &Option<Wave<R::E>>,
+    other: Place,
     steps: &mut Steps<L>,
 ) -> Wave<R::E>
-    ensures value { let o = R.ops ring.now in let w = slots.now in
-        result ≡ Wave.Vector (scaled_lower o (one_scalar o factors.now w 3) (four_in o other.now)) }
+    ensures value { let o = R.ops ring.now in let w = filled o slots.now in
+        result ≡ Wave.Vector (scaled_lower o (one_scalar o factors.now w 3) (four_in o (wave_from o slots.now.waves.now other.wave))) }
     ensures at_most { steps.new ≤ steps.old + 7 * R.cost ring.now }
 {
-    let v = four_in(ring, other);
-    let s = scalar_in(ring, &slots.third.wave);
+    let v = four_of(ring, slots, other);
+    let s = scalar_of(ring, slots, slots.places.third);
     let c = one_scalar(ring, factors, s, steps);
     Wave::Vector(scaled_lower(ring, c, &v, steps))
 }
@@ -57,15 +58,15 @@ pub(super) fn vvs<R: Ring<Mark = L>, L>(
 ) -> Wave<R::E>
     requires low { 1 ≤ hole }
     requires high { hole ≤ 3 }
-    ensures value { result ≡ vvs_form (R.ops ring.now) factors.now slots.now hole }
+    ensures value { let o = R.ops ring.now in result ≡ vvs_form o factors.now (filled o slots.now) hole }
     ensures at_most { steps.new ≤ steps.old + calls_to_fuse Structure.Vvs hole * R.cost ring.now }
 {
     match hole {
-        1 => vvs_vector(ring, factors, slots, &slots.second.wave, steps),
-        2 => vvs_vector(ring, factors, slots, &slots.first.wave, steps),
+        1 => vvs_vector(ring, factors, slots, slots.places.second, steps),
+        2 => vvs_vector(ring, factors, slots, slots.places.first, steps),
         3 => {
-            let p = four_in(ring, &slots.first.wave);
-            let q = four_in(ring, &slots.second.wave);
+            let p = four_of(ring, slots, slots.places.first);
+            let q = four_of(ring, slots, slots.places.second);
             let c = coupling(ring, factors, steps);
             joined_vectors(ring, c, &p, &q, steps)
         }
@@ -79,16 +80,16 @@ fn vvss_vector<R: Ring<Mark = L>, L>(
     ring: &R,
     factors: &Factors<R::E>,
     slots: &Slots<R::E>,
-    other: &Option<Wave<R::E>>,
+    other: Place,
     steps: &mut Steps<L>,
 ) -> Wave<R::E>
-    ensures value { let o = R.ops ring.now in let w = slots.now in
-        result ≡ Wave.Vector (scaled_lower o (two_scalars o factors.now w 3 4) (four_in o other.now)) }
+    ensures value { let o = R.ops ring.now in let w = filled o slots.now in
+        result ≡ Wave.Vector (scaled_lower o (two_scalars o factors.now w 3 4) (four_in o (wave_from o slots.now.waves.now other.wave))) }
     ensures at_most { steps.new ≤ steps.old + 8 * R.cost ring.now }
 {
-    let v = four_in(ring, other);
-    let s = scalar_in(ring, &slots.third.wave);
-    let t = scalar_in(ring, &slots.fourth.wave);
+    let v = four_of(ring, slots, other);
+    let s = scalar_of(ring, slots, slots.places.third);
+    let t = scalar_of(ring, slots, slots.places.fourth);
     let c = two_scalars(ring, factors, s, t, steps);
     Wave::Vector(scaled_lower(ring, c, &v, steps))
 }
@@ -99,16 +100,16 @@ fn vvss_scalar<R: Ring<Mark = L>, L>(
     ring: &R,
     factors: &Factors<R::E>,
     slots: &Slots<R::E>,
-    other: &Option<Wave<R::E>>,
+    other: Place,
     steps: &mut Steps<L>,
 ) -> Wave<R::E>
-    ensures value { let o = R.ops ring.now in let w = slots.now in
-        result ≡ Wave.Scalar (o.times (o.times (coupling o factors.now) (scalar_in o other.now)) (dot o (four_at o w 1) (four_at o w 2))) }
+    ensures value { let o = R.ops ring.now in let w = filled o slots.now in
+        result ≡ Wave.Scalar (o.times (o.times (coupling o factors.now) (scalar_in o (wave_from o slots.now.waves.now other.wave))) (dot o (four_at o w 1) (four_at o w 2))) }
     ensures at_most { steps.new ≤ steps.old + 11 * R.cost ring.now }
 {
-    let p = four_in(ring, &slots.first.wave);
-    let q = four_in(ring, &slots.second.wave);
-    let c = one_scalar(ring, factors, scalar_in(ring, other), steps);
+    let p = four_of(ring, slots, slots.places.first);
+    let q = four_of(ring, slots, slots.places.second);
+    let c = one_scalar(ring, factors, scalar_of(ring, slots, other), steps);
     joined_vectors(ring, c, &p, &q, steps)
 }
 
@@ -122,14 +123,14 @@ pub(super) fn vvss<R: Ring<Mark = L>, L>(
 ) -> Wave<R::E>
     requires low { 1 ≤ hole }
     requires high { hole ≤ 4 }
-    ensures value { result ≡ vvss_form (R.ops ring.now) factors.now slots.now hole }
+    ensures value { let o = R.ops ring.now in result ≡ vvss_form o factors.now (filled o slots.now) hole }
     ensures at_most { steps.new ≤ steps.old + calls_to_fuse Structure.Vvss hole * R.cost ring.now }
 {
     match hole {
-        1 => vvss_vector(ring, factors, slots, &slots.second.wave, steps),
-        2 => vvss_vector(ring, factors, slots, &slots.first.wave, steps),
-        3 => vvss_scalar(ring, factors, slots, &slots.fourth.wave, steps),
-        4 => vvss_scalar(ring, factors, slots, &slots.third.wave, steps),
+        1 => vvss_vector(ring, factors, slots, slots.places.second, steps),
+        2 => vvss_vector(ring, factors, slots, slots.places.first, steps),
+        3 => vvss_scalar(ring, factors, slots, slots.places.fourth, steps),
+        4 => vvss_scalar(ring, factors, slots, slots.places.third, steps),
         _ => unreachable!(),
     }
 }
