@@ -28,3 +28,5 @@ pub mod BlockAnswer
 pub mod BlockSums
 pub mod BlockWalk
 pub mod BlockCalls
+pub mod DenominatorForm
+pub mod LeastLeg

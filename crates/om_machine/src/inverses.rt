@@ -3,13 +3,15 @@
 //! All denominators are inverted together: the product of all is inverted once, and gives each inverse by two products.
 ghost use Rattle.std.specs.Prelude.{◌≡◌, ℕ, ◌+◌, ◌*◌, ◌≤◌, [], length, MatchOption};
 ghost use Rattle.om_code.specs.Meaning.{IsFirstPole};
-ghost use Rattle.om_machine.specs.Momenta.{AreDenominators, AreEdges, AreProducts, product_before, table_from};
+ghost use Rattle.om_machine.specs.declared.sets.TheConstants.{SETS};
+ghost use Rattle.om_machine.specs.Momenta.{AreDenominators, AreEdges, AreProducts, HoldsEdgeMomenta, product_before, table_from};
 
 use crate::Event;
 use crate::momenta::denominator_of;
 use crate::numbers::Masses;
 use crate::reads::masses_in;
 use om_code::{Code, Den};
+use om_lorentz::Four;
 use om_ring::{List, Ring, Steps};
 
 // Puts the denominators of the inner edges.
@@ -18,18 +20,20 @@ fn set_denominators<R: Ring<Mark = L>, L>(
     code: &Code,
     masses: &[Masses<R::E>],
     event: &Event<R::E>,
+    momenta: &[Four<R::E>],
     denominators: &mut List<R::E>,
     steps: &mut Steps<L>,
 )
-    requires { length denominators.old ≡ length code.now.dens }
+    requires count { length denominators.old ≡ length code.now.dens }
+    requires places { length momenta.now ≡ SETS }
+    requires momenta { HoldsEdgeMomenta (R.ops ring.now) code.now event.now momenta.now }
     ensures value { let o = R.ops ring.now in let t = table_from o [] masses.now in
         AreDenominators o code.now t event.now (length code.now.dens) denominators.new }
     ensures length { length denominators.new ≡ length code.now.dens }
-    ensures at_most { steps.new ≤ steps.old + length code.now.dens * (65 * R.cost ring.now) }
+    ensures at_most { steps.new ≤ steps.old + length code.now.dens * (13 * R.cost ring.now) }
 {
-    for k in 0..code.dens.len() {
-        let den = code.dens.at(k);
-        let value = denominator_of(ring, code, masses, event, den, steps);
+    for (k, den) in code.dens.as_slice().iter().enumerate() {
+        let value = denominator_of(ring, code, masses, event, momenta, den, steps);
         denominators.set(k, value);
     }
 }
@@ -130,22 +134,25 @@ pub(crate) fn set_edges<R: Ring<Mark = L>, L>(
     code: &Code,
     masses: &[Masses<R::E>],
     event: &Event<R::E>,
+    momenta: &[Four<R::E>],
     denominators: &mut List<R::E>,
     edges: &mut List<R::E>,
     steps: &mut Steps<L>,
 ) -> Option<Den>
     requires count { length denominators.old ≡ length code.now.dens }
     requires places { length edges.old ≡ length code.now.dens }
+    requires sets { length momenta.now ≡ SETS }
+    requires momenta { HoldsEdgeMomenta (R.ops ring.now) code.now event.now momenta.now }
     ensures value { let o = R.ops ring.now in let t = table_from o [] masses.now in
         MatchOption result (AreEdges o code.now t event.now (length code.now.dens) edges.new) (IsFirstPole o code.now t event.now code.now.dens) }
     ensures length { length edges.new ≡ length code.now.dens }
     ensures count { length denominators.new ≡ length code.now.dens }
-    ensures at_most { steps.new ≤ steps.old + length code.now.dens * (70 * R.cost ring.now) }
+    ensures at_most { steps.new ≤ steps.old + length code.now.dens * (18 * R.cost ring.now) }
 {
     if code.dens.is_empty() {
         return None;
     }
-    set_denominators(ring, code, masses, event, denominators, steps);
+    set_denominators(ring, code, masses, event, momenta, denominators, steps);
     let denominators = denominators.as_slice();
     let product = set_products(ring, denominators, edges, steps);
     match ring.inverse(product, steps) {

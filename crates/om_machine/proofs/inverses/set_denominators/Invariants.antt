@@ -6,5 +6,5 @@ abbrev pub invariant-loop-k : goal.invariant-loop-k
 invariant-loop-k g l = record {
   value : AreDenominators (g.R.Ring.ops l.ring) l.code (table_from (g.R.Ring.ops l.ring) [] l.masses) l.event l.k l.denominators;
   length : length l.denominators ≡ length l.code.dens;
-  at_most : l.steps ≤ l.fn.steps + l.k * (65 * g.R.Ring.cost l.ring);
+  at_most : l.steps ≤ l.fn.steps + l.k * (13 * g.R.Ring.cost l.ring);
 }
