@@ -1,9 +1,9 @@
 pub mod Events
 pub mod Forms
 pub mod Decoded
-pub mod Blocks
 pub mod Momenta
 pub mod Loaded
+pub mod Blocks
 pub mod Rows
 pub mod Bound
 pub mod Machines
