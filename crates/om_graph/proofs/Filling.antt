@@ -1,5 +1,6 @@
 -- The filling of slots keeps what is known of each part.
-use Rattle.std.proofs.Common.{◌≡◌, ℕ, suc, ◌+◌, List, [], ◌∷◌, ◌++◌, map, length, Bool, true, false, cond, eqb, ltb, refl, ap, ap₂, sym, ◌∙◌, arith, Option, Some, None, slice_get}
+use Rattle.std.proofs.Common.{◌≡◌, ℕ, suc, ◌+◌, List, [], ◌∷◌, ◌++◌, map, length, Bool, true, false, cond, eqb, ltb, refl, ap, ap₂, sym, ◌∙◌, arith, true≢false, Option, Some, None, slice_get}
+use Rattle.std.proofs.lemmas.Bool.{eq-eqb}
 use Rattle.std.proofs.lemmas.Option.{none-some}
 use Rattle.om_legs.specs.Legs.{holds}
 use Rattle.om_model.specs.Parts.{Part as Edge, first_from, least, others, put, sort}
@@ -22,6 +23,19 @@ taken f (q ∷ ps) p e = by (eqb q.field f) e (taken f ps p)
     by : (b : Bool) → cond b (Some q) (first_with f ps) ≡ Some p → (first_with f ps ≡ Some p → length (without_first f ps) + 1 ≡ length ps) → length (cond b ps (q ∷ without_first f ps)) + 1 ≡ suc (length ps)
     by true e h = omega arith
     by false e h = let l = h e in omega arith
+
+-- parts whose fields are those of the slots stay in their order
+at_first : (b : Bool) (p : Part) (ps : List Part) (o : Option Part) (qs : List Part) → b ≡ true → one_or_none (cond b (Some p) o) ++ filled (map (λ (q : Part). q.field) ps) (cond b ps (p ∷ qs)) ≡ p ∷ filled (map (λ (q : Part). q.field) ps) ps
+at_first true p ps o qs h = refl
+at_first false p ps o qs h = absurd (true≢false (sym h))
+
+by_own_fields : (ps : List Part) → filled (map (λ (p : Part). p.field) ps) ps ≡ ps
+unfolding filled first_with without_first
+by_own_fields [] = refl
+by_own_fields (p ∷ ps) = at_first (eqb p.field p.field) p ps (first_with p.field ps) (without_first p.field ps) (eq-eqb p.field p.field refl) ∙ ap (λ qs. p ∷ qs) (by_own_fields ps)
+
+pub filled_in_order : (fs : List ℕ) (ps : List Part) → map (λ (p : Part). p.field) ps ≡ fs → filled fs ps ≡ ps
+filled_in_order fs ps e = ap (λ gs. filled gs ps) (sym e) ∙ by_own_fields ps
 
 module _ {A B : Type 0} (f : A → B) where
   map_append : (xs ys : List A) → map f (xs ++ ys) ≡ map f xs ++ map f ys

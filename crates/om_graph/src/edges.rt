@@ -1,6 +1,7 @@
 //! Whether named edges stay whole at a vertex.
 ghost use Rattle.std.specs.Prelude.{◌≡◌, ◌<◌, ◌≤◌, ◌∷◌, ◌||◌};
 ghost use Rattle.om_legs.specs.Legs.{complement};
+ghost use Rattle.om_legs.specs.declared.leg_set.TheConstants.{MOST_LEGS};
 ghost use Rattle.om_model.specs.Diagram.{all_in};
 ghost use Rattle.om_model.specs.Diagrams.{any_in};
 ghost use Rattle.om_graph.specs.Vertices.{lies_in as lies_in_of};
@@ -11,7 +12,7 @@ use om_legs::LegSet;
 #[tactic(auto, unfolding(om_model::specs::Diagram::all_in))]
 pub(crate) fn keep_all(size: u8, edges: &[LegSet], rest: LegSet, parts: &[LegSet]) -> bool
     requires some { 0 < size }
-    requires within { size ≤ 12 }
+    requires within { size ≤ MOST_LEGS }
     ensures { result ≡ all_in (λ e. any_in (λ part. lies_in_of e part || lies_in_of (complement e size) part) (rest ∷ parts.now)) edges.now }
 {
     match edges {
@@ -24,7 +25,7 @@ pub(crate) fn keep_all(size: u8, edges: &[LegSet], rest: LegSet, parts: &[LegSet
 #[tactic(auto, unfolding(om_model::specs::Diagrams::any_in))]
 fn keeps_edge(size: u8, edge: LegSet, rest: LegSet, parts: &[LegSet]) -> bool
     requires some { 0 < size }
-    requires within { size ≤ 12 }
+    requires within { size ≤ MOST_LEGS }
     ensures { result ≡ any_in (λ part. lies_in_of edge part || lies_in_of (complement edge size) part) (rest ∷ parts.now) }
 {
     let other = edge.complement(size);

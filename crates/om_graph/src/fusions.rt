@@ -87,7 +87,7 @@ fn add_meetings(
     ensures added { Adds limit (map fused_seen found.old.items) (met (meet_fused (reaction_in reaction.now)) nodes.now (chosen_nodes chosen)) (map fused_seen found.new.items) result }
 {
     let all = nodes.keys_of(chosen);
-    let keys = &all[..chosen.count];
+    let keys = &all[..chosen.count as usize];
     if let Err(_) = fillings.find(alloc, reaction, keys) {
         return Err(BuildFault::Memory);
     }

@@ -1,5 +1,6 @@
 //! A process over its model, as the vertices of its diagrams see it.
 ghost use Rattle.std.specs.Prelude.{◌≡◌, ◌+◌, ◌*◌, ◌<◌, ◌≤◌, ◌∷◌, ◌&&◌, IfOk, Some, length, slice_get, IsTrue, map, cond, nat_le};
+ghost use Rattle.om_legs.specs.declared.leg_set.TheConstants.{MOST_LEGS};
 ghost use Rattle.om_legs.specs.Legs.{set_of, set_of_one, union};
 ghost use Rattle.om_model.specs.Model.{colours_of_vertex};
 ghost use Rattle.om_model.specs.Rules.{HasPattern};
@@ -67,7 +68,7 @@ impl<'a> Reaction<'a> {
     pub(crate) fn size(&self) -> u8
         ensures size { result ≡ (reaction_in self.now).scattering.size }
         ensures least { 3 ≤ result }
-        ensures most { result ≤ 12 }
+        ensures most { result ≤ MOST_LEGS }
     {
         self.process.legs.len() as u8
     }
@@ -176,7 +177,7 @@ fn row_of_vertex(particles: &[Particle], vertex: &Vertex) -> ColourRow
 }
 
 fn fermions(particles: &[Particle], legs: &[Leg]) -> LegSet
-    requires { length legs.now ≤ 12 }
+    requires { length legs.now ≤ MOST_LEGS }
     ensures { result ≡ set_of (λ k. nat_le k (length legs.now) && is_fermion_leg particles.now legs.now k) }
 {
     let mut set = LegSet::empty();
@@ -189,7 +190,7 @@ fn fermions(particles: &[Particle], legs: &[Leg]) -> LegSet
 
 fn with_leg(set: LegSet, leg: u8, there: bool) -> LegSet
     requires some { 0 < leg }
-    requires within { leg ≤ 12 }
+    requires within { leg ≤ MOST_LEGS }
     ensures { result ≡ cond there (union set (set_of_one leg)) set }
 {
     if there {

@@ -1,5 +1,7 @@
-use Rattle.std.proofs.Common.{List, Option, ◌≤◌, ◌+◌, ◌<◌, ◌++◌, ◌∷◌, [], map, flat_map, length, ap, subst, ◌∙◌}
+use Rattle.std.proofs.Common.{List, Option, ◌≤◌, ◌+◌, ◌<◌, ◌++◌, ◌∷◌, [], map, flat_map, length, ap, subst, sym, ◌∙◌}
+use Rattle.om_colour.specs.Partials.{Fits, closed, no_hole}
 use Rattle.om_colour.specs.declared.Flow.{Flow}
+use Rattle.om_colour.specs.declared.SlotPartials.{SlotPartials}
 use Rattle.om_graph.specs.Loops.{Signed, chosen_nodes, counts, closed_at, closed_seen}
 use Rattle.om_graph.specs.declared.Key.{Key}
 use Rattle.om_graph.specs.Fillings.{key_at}
@@ -17,7 +19,7 @@ loop-choice-init c = record {
 }
 
 pub closed-requires-clause-fit : goal.closed-requires-clause-fit
-closed-requires-clause-fit c = closes_at (reaction_in c.args.reaction.now) c.args.meeting.vertex c.args.keys.now c.slots_at-slots.result.keys c.loop-choice.choice c.requires.close (c.slots_at-slots.ensures.keys ∙ ap four_slots (ap (map (key_at c.args.keys.now)) c.requires.filled ∙ closed_filled (reaction_in c.args.reaction.now) c.args.meeting c.args.keys.now)) (subst (λ n. c.loop-choice.choice < n) c.choices-choice-end.ensures c.loop-choice-test.true)
+closed-requires-clause-fit c = subst (λ (p : SlotPartials). Fits p ((reaction_in c.args.reaction.now).choice c.args.meeting.vertex c.loop-choice.choice) no_hole) (sym c.partials_of-partials.ensures) (closes_at (reaction_in c.args.reaction.now) c.args.meeting.vertex c.args.keys.now c.slots_at-slots.result.keys c.loop-choice.choice c.requires.close (c.slots_at-slots.ensures.keys ∙ ap four_slots (ap (map (key_at c.args.keys.now)) c.requires.filled ∙ closed_filled (reaction_in c.args.reaction.now) c.args.meeting c.args.keys.now)) (subst (λ n. c.loop-choice.choice < n) c.choices-choice-end.ensures c.loop-choice-test.true))
 
 pub returns-in-Err : goal.returns-in-Err
 returns-in-Err c = record {
@@ -29,7 +31,7 @@ returns-in-Err c = record {
 
 pub loop-choice-preserved : goal.loop-choice-preserved
 loop-choice-preserved c =
-    let x = found_is (reaction_in c.args.reaction.now) c.args.meeting.vertex c.loop-choice.choice (chosen_nodes c.args.chosen) c.args.keys.now _ _ (flow_is (reaction_in c.args.reaction.now) c.args.meeting.vertex c.loop-choice.choice c.args.keys.now c.slots_at-slots.result.keys c.closed.result (c.slots_at-slots.ensures.keys ∙ ap four_slots (ap (map (key_at c.args.keys.now)) c.requires.filled ∙ closed_filled (reaction_in c.args.reaction.now) c.args.meeting c.args.keys.now)) c.closed.ensures) (minus_is (reaction_in c.args.reaction.now) c.args.meeting.vertex c.args.keys.now c.fermions.result c.slots_at-slots.result.keys c.is_odd-minus.result (c.slots_at-slots.ensures.keys ∙ ap four_slots (ap (map (key_at c.args.keys.now)) c.requires.filled ∙ closed_filled (reaction_in c.args.reaction.now) c.args.meeting c.args.keys.now)) (subst (λ (s : List (Option Key)). length s ≤ 4) (ap (map (key_at c.args.keys.now)) c.requires.filled ∙ closed_filled (reaction_in c.args.reaction.now) c.args.meeting c.args.keys.now) c.slots_at-slots.ensures.few) c.fermions.ensures c.is_odd-minus.ensures) in
+    let x = found_is (reaction_in c.args.reaction.now) c.args.meeting.vertex c.loop-choice.choice (chosen_nodes c.args.chosen) c.args.keys.now _ _ (flow_is (reaction_in c.args.reaction.now) c.args.meeting.vertex c.loop-choice.choice c.args.keys.now c.slots_at-slots.result.keys c.closed.result (c.slots_at-slots.ensures.keys ∙ ap four_slots (ap (map (key_at c.args.keys.now)) c.requires.filled ∙ closed_filled (reaction_in c.args.reaction.now) c.args.meeting c.args.keys.now)) (c.closed.ensures ∙ ap (λ (p : SlotPartials). closed p ((reaction_in c.args.reaction.now).choice c.args.meeting.vertex c.loop-choice.choice)) c.partials_of-partials.ensures)) (minus_is (reaction_in c.args.reaction.now) c.args.meeting.vertex c.args.keys.now c.fermions.result c.slots_at-slots.result.keys c.is_odd-minus.result (c.slots_at-slots.ensures.keys ∙ ap four_slots (ap (map (key_at c.args.keys.now)) c.requires.filled ∙ closed_filled (reaction_in c.args.reaction.now) c.args.meeting c.args.keys.now)) (subst (λ (s : List (Option Key)). length s ≤ 4) (ap (map (key_at c.args.keys.now)) c.requires.filled ∙ closed_filled (reaction_in c.args.reaction.now) c.args.meeting c.args.keys.now) c.slots_at-slots.ensures.few) c.fermions.ensures c.is_odd-minus.ensures) in
     record {
       all = more (λ k. closed_at (reaction_in c.args.reaction.now) (chosen_nodes c.args.chosen) c.args.keys.now c.args.meeting.vertex k ∷ []) c.loop-choice.choice (map closed_seen c.args.found.now.items) (map closed_seen c.loop-choice.found.items) (map closed_seen c.add.new.found.items) c.loop-choice.invariant.all
           (c.in_default.ensures.added.0 ∙ ap (λ (y : Signed Flow). map closed_seen c.loop-choice.found.items ++ y ∷ []) x);
