@@ -1,8 +1,12 @@
-use Rattle.std.proofs.Common.{[], refl}
+use Rattle.std.proofs.Common.{[], refl, arith, append-nil}
 use Rattle.std.proofs.lemmas.Result.{err_from_is_err_and}
 use Rattle.om_io.specs.Writing.{outlet}
+use Rattle.om_io.proofs.Outlets.{told_nothing}
 use Rattle.om_top.proofs.Values.{all_lines, line_breaks, line_more, same_flows}
 use Rattle.om_top.proofs.answer_text.write_lines.Goals as goal
+
+pub loop-k-init : goal.loop-k-init
+loop-k-init g c = record { later = omega arith; sent = []; parts = append-nil c.args.line.now; appended = told_nothing (g.O.Sink.written c.args.out.now) }
 
 pub returns-in_err-write_value : goal.returns-in_err-write_value
 returns-in_err-write_value g c =
