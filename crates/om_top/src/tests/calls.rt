@@ -1,7 +1,7 @@
 //! `eval` evaluates the emitted code: it makes as many ring calls as its parts, called one by one.
 use super::case::{Case, left_by};
 use super::eval::{CURRENTS, TEN};
-use crate::WORD_LIMIT;
+use crate::words::WORD_LIMIT;
 use om_emit::emit;
 use om_event::{Next, Reader};
 use om_graph::build;
