@@ -1,6 +1,5 @@
 //! Whole runs over objects in memory.
 
-mod calls;
 mod case;
 mod check;
 mod compile;

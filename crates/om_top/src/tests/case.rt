@@ -102,8 +102,6 @@ pub(crate) struct Left {
     pub status: u8,
     pub out: MemSink,
     pub err: MemSink,
-    /// How many ring calls were made.
-    pub calls: u64,
 }
 
 /// What the run of a case leaves, with this file model.toml.
@@ -125,11 +123,5 @@ pub(crate) fn left_by(
     let status = run(
         alloc, &Zp, &words, &mut files, &mut input, &mut out, &mut err, &mut steps,
     );
-    let calls = steps.count();
-    Ok(Left {
-        status,
-        out,
-        err,
-        calls,
-    })
+    Ok(Left { status, out, err })
 }

@@ -12,7 +12,7 @@ const THREE: Case = Case {
 };
 
 /// Two massive particles to eight, at rest.
-pub(super) const TEN: Case = Case {
+const TEN: Case = Case {
     words: &[
         "eval",
         "model.toml",
@@ -25,7 +25,7 @@ pub(super) const TEN: Case = Case {
 };
 
 /// Two currents of spinors.
-pub(super) const CURRENTS: Case = Case {
+const CURRENTS: Case = Case {
     words: &["eval", "model.toml", "e- e+ -> mu- mu+"],
     file: Some(QED),
     input: "1 1 0 0 0 0 0 1 0\n2 1 0 0 0 1 0 0 0\n3 1 0 0 0 0 1 0 0\n4 -3 0 0 0 0 0 0 1\n",
