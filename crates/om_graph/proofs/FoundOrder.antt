@@ -17,7 +17,7 @@ use Rattle.om_graph.specs.declared.chosen.Chosen.{Chosen}
 use Rattle.om_graph.specs.declared.fusions.Fused.{Fused}
 use Rattle.om_graph.specs.declared.key_terms.Row.{Row}
 use Rattle.om_graph.specs.Graph.{found_lt, numbered_lt}
-use Rattle.om_graph.specs.Loops.{chosen_nodes, fused_found, row_seen}
+use Rattle.om_graph.specs.Loops.{chosen_nodes, four_nodes, fused_found, row_seen}
 use Rattle.om_graph.specs.Possible.{flow_lt, key_lt}
 use Rattle.om_graph.proofs.Orders.{key_order}
 
@@ -92,32 +92,49 @@ one_behind (u ∷ xs) (v ∷ ys) x y l e = by (ltb u v) (ltb v u) refl refl e (o
 
 -- ---- vertex, choice and nodes
 
+-- where the first that differ are less, the same holds with more behind them
+later : (o u v : Ordering) → (u ≡ Less → v ≡ Less) → ordering_then o u ≡ Less → ordering_then o v ≡ Less
+later Less u v h e = refl
+later Equal u v h e = h e
+later Greater u v h e = e
+
+-- the order of nodes that are chosen
+chosen_cmp : Chosen → Chosen → Ordering
+chosen_cmp b a =
+    ordering_then (nat_cmp b.first a.first) (ordering_then (nat_cmp b.second a.second) (ordering_then (nat_cmp b.third a.third) (ordering_then (nat_cmp b.fourth a.fourth) (nat_cmp b.count a.count))))
+
+chosen_less : (b a : Chosen) → numbers_lt (four_nodes b) (four_nodes a) ≡ true → chosen_cmp b a ≡ Less
+unfolding chosen_cmp
+chosen_less b a e =
+    later (nat_cmp b.first a.first) _ _ (later (nat_cmp b.second a.second) _ _ (later (nat_cmp b.third a.third) _ _ (later (nat_cmp b.fourth a.fourth) Equal (nat_cmp b.count a.count) (λ f. absurd (true≢false (sym (ap is_lt f)))))))
+    (list_less (four_nodes b) (four_nodes a) e)
+
 -- the order of what stands behind what is made
 behind : ℕ → ℕ → Chosen → Bool → ℕ → ℕ → Chosen → Bool → Ordering
-behind v c b m w d a n = ordering_then (nat_cmp v w) (ordering_then (nat_cmp c d) (ordering_then (ordering_then (slice_cmp nat_cmp b.nodes a.nodes) (nat_cmp b.count a.count)) (bool_cmp m n)))
+behind v c b m w d a n = ordering_then (nat_cmp v w) (ordering_then (nat_cmp c d) (ordering_then (chosen_cmp b a) (bool_cmp m n)))
 
 rest_less : (v c w d : ℕ) (b a : Chosen) (m n : Bool) → (v ≡ w → length (chosen_nodes b) ≡ length (chosen_nodes a)) → numbers_lt (v ∷ c ∷ chosen_nodes b) (w ∷ d ∷ chosen_nodes a) ≡ true → behind v c b m w d a n ≡ Less
 unfolding behind numbers_lt
 rest_less v c w d b a m n l e = by (ltb v w) (ltb w v) refl refl e
   where
-    nodes_less : v ≡ w → numbers_lt (chosen_nodes b) (chosen_nodes a) ≡ true → ordering_then (ordering_then (slice_cmp nat_cmp b.nodes a.nodes) (nat_cmp b.count a.count)) (bool_cmp m n) ≡ Less
-    nodes_less q e = ap (λ o. ordering_then (ordering_then o (nat_cmp b.count a.count)) (bool_cmp m n)) (list_less b.nodes a.nodes (first_part b.count a.count b.nodes a.nodes (l q) e))
+    nodes_less : v ≡ w → numbers_lt (chosen_nodes b) (chosen_nodes a) ≡ true → ordering_then (chosen_cmp b a) (bool_cmp m n) ≡ Less
+    nodes_less q e = ap (λ o. ordering_then o (bool_cmp m n)) (chosen_less b a (first_part b.count a.count (four_nodes b) (four_nodes a) (l q) e))
 
     choices : v ≡ w → (p q : Bool) → ltb c d ≡ p → ltb d c ≡ q → cond p true (cond q false (numbers_lt (chosen_nodes b) (chosen_nodes a))) ≡ true
-        → ordering_then (nat_cmp c d) (ordering_then (ordering_then (slice_cmp nat_cmp b.nodes a.nodes) (nat_cmp b.count a.count)) (bool_cmp m n)) ≡ Less
-    choices q true h f g e = ap (λ o. ordering_then o (ordering_then (ordering_then (slice_cmp nat_cmp b.nodes a.nodes) (nat_cmp b.count a.count)) (bool_cmp m n))) (nat_less c d (ltb-true c d f))
+        → ordering_then (nat_cmp c d) (ordering_then (chosen_cmp b a) (bool_cmp m n)) ≡ Less
+    choices q true h f g e = ap (λ o. ordering_then o (ordering_then (chosen_cmp b a) (bool_cmp m n))) (nat_less c d (ltb-true c d f))
     choices q false true f g e = absurd (true≢false (sym e))
     choices q false false f g e =
-        ap (λ o. ordering_then o (ordering_then (ordering_then (slice_cmp nat_cmp b.nodes a.nodes) (nat_cmp b.count a.count)) (bool_cmp m n))) (nat_equal c d (let x = ltb-false c d f in let y = ltb-false d c g in omega (arith, x, y)))
+        ap (λ o. ordering_then o (ordering_then (chosen_cmp b a) (bool_cmp m n))) (nat_equal c d (let x = ltb-false c d f in let y = ltb-false d c g in omega (arith, x, y)))
         ∙ nodes_less q e
 
     by : (p q : Bool) → ltb v w ≡ p → ltb w v ≡ q → cond p true (cond q false (cond (ltb c d) true (cond (ltb d c) false (numbers_lt (chosen_nodes b) (chosen_nodes a))))) ≡ true
-        → ordering_then (nat_cmp v w) (ordering_then (nat_cmp c d) (ordering_then (ordering_then (slice_cmp nat_cmp b.nodes a.nodes) (nat_cmp b.count a.count)) (bool_cmp m n))) ≡ Less
-    by true q f g e = ap (λ o. ordering_then o (ordering_then (nat_cmp c d) (ordering_then (ordering_then (slice_cmp nat_cmp b.nodes a.nodes) (nat_cmp b.count a.count)) (bool_cmp m n)))) (nat_less v w (ltb-true v w f))
+        → ordering_then (nat_cmp v w) (ordering_then (nat_cmp c d) (ordering_then (chosen_cmp b a) (bool_cmp m n))) ≡ Less
+    by true q f g e = ap (λ o. ordering_then o (ordering_then (nat_cmp c d) (ordering_then (chosen_cmp b a) (bool_cmp m n)))) (nat_less v w (ltb-true v w f))
     by false true f g e = absurd (true≢false (sym e))
     by false false f g e =
         let s : v ≡ w = (let x = ltb-false v w f in let y = ltb-false w v g in omega (arith, x, y)) in
-        ap (λ o. ordering_then o (ordering_then (nat_cmp c d) (ordering_then (ordering_then (slice_cmp nat_cmp b.nodes a.nodes) (nat_cmp b.count a.count)) (bool_cmp m n)))) (nat_equal v w s)
+        ap (λ o. ordering_then o (ordering_then (nat_cmp c d) (ordering_then (chosen_cmp b a) (bool_cmp m n)))) (nat_equal v w s)
         ∙ choices s (ltb c d) (ltb d c) refl refl e
 
 -- by what is made, and then by the rest
@@ -128,7 +145,7 @@ made_first made rest false false true less equal more h = absurd (true≢false (
 made_first made rest false false false less equal more h = refl
 
 pub row_before : (x y : Row) → (x.vertex ≡ y.vertex → length (chosen_nodes x.branches) ≡ length (chosen_nodes y.branches)) → is_lt ((row.ghosts).cmp x y) ≡ false → numbered_lt (row_seen x) (row_seen y) ≡ false
-unfolding numbered_lt numbers_lt behind
+unfolding numbered_lt numbers_lt behind chosen_cmp
 row_before x y l h =
     made_first (nat_cmp x.flow y.flow) (behind x.vertex x.choice x.branches x.minus y.vertex y.choice y.branches y.minus)
     (ltb x.flow y.flow) (ltb y.flow x.flow) (numbers_lt (x.vertex ∷ x.choice ∷ chosen_nodes x.branches) (y.vertex ∷ y.choice ∷ chosen_nodes y.branches))
@@ -174,7 +191,7 @@ key_itself a b e =
 
 pub fused_before : (x y : Fused) → x.key.legs ≡ y.key.legs → length x.key.partial.ends ≡ length y.key.partial.ends → (x.vertex ≡ y.vertex → length (chosen_nodes x.branches) ≡ length (chosen_nodes y.branches)) → is_lt ((fused.ghosts).cmp x y) ≡ false
     → found_lt key_lt (fused_found x) (fused_found y) ≡ false
-unfolding found_lt behind key_cmp
+unfolding found_lt behind key_cmp chosen_cmp
 fused_before x y s p l h =
     made_first (key_cmp x.key y.key) (behind x.vertex x.choice x.branches x.minus y.vertex y.choice y.branches y.minus)
     (key_lt x.key y.key) (key_lt y.key x.key) (numbers_lt (x.vertex ∷ x.choice ∷ chosen_nodes x.branches) (y.vertex ∷ y.choice ∷ chosen_nodes y.branches))

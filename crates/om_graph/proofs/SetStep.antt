@@ -22,7 +22,7 @@ use Rattle.om_graph.specs.declared.fusions.Fused.{Fused}
 use Rattle.om_graph.specs.Caches.{StandLast}
 use Rattle.om_graph.specs.Fusion.{IsNode}
 use Rattle.om_graph.specs.Graph.{Found, found_lt, at_numbers}
-use Rattle.om_graph.specs.Loops.{CanMeetOver, Signed, counts, fused_at, fused_by, fused_found, fused_key, fused_seen, fused_with, meet_fused, meetings_of, met_parts}
+use Rattle.om_graph.specs.Loops.{CanMeetOver, Signed, counts, four_nodes, fused_at, fused_by, fused_found, fused_key, fused_seen, fused_with, meet_fused, meetings_of, met_parts}
 use Rattle.om_graph.specs.Possible.{key_lt, state_of, unsigned}
 use Rattle.om_graph.specs.Search.{State, add_all, nodes_over, step, walk}
 use Rattle.om_graph.specs.SetSearch.{found_fused, found_in, set_search, splits_of, uncut_splits}
@@ -181,7 +181,7 @@ module _ (r : Reaction) (ns : List Key) (ts : List Term) (set : ℕ) (w : IsLegS
 
         pub sorted_several : All (λ (y : Fused). 2 ≤ y.branches.count) sorted
         sorted_several = All-permutation (λ (y : Fused). 2 ≤ y.branches.count) unsorted sorted p
-            (all_of_members (λ (y : Fused). 2 ≤ y.branches.count) unsorted (λ y i. let s = (known_found y i).several in let l = take_shorter y.branches.count y.branches.nodes in omega (arith, s, l)))
+            (all_of_members (λ (y : Fused). 2 ≤ y.branches.count) unsorted (λ y i. let s = (known_found y i).several in let l = take_shorter y.branches.count (four_nodes y.branches) in omega (arith, s, l)))
 
         pub sorted_signs : All (HasFoundSign r ns) sorted
         sorted_signs = All-permutation (HasFoundSign r ns) unsorted sorted p (all_of_members (HasFoundSign r ns) unsorted (λ y i. let k = known_found y i in (k.keys, k.are, k.sign)))

@@ -4,10 +4,11 @@ use Rattle.std.specs.List.{filter}
 use Rattle.std.specs.Prelude.{All}
 use Rattle.std.proofs.lemmas.List.Concat.{flat_map-append}
 use Rattle.std.proofs.lemmas.Option.{same_Some}
+use Rattle.om_ring.specs.OptionSteps.{◌>>=◌}
 use Rattle.om_ring.specs.Members.{In}
 use Rattle.om_legs.proofs.Members.{In-get_or}
 use Rattle.om_graph.specs.declared.Key.{Key}
-use Rattle.om_graph.specs.Graph.{Found, and_then, at_numbers}
+use Rattle.om_graph.specs.Graph.{Found, at_numbers}
 use Rattle.om_graph.specs.Loops.{Signed}
 use Rattle.om_graph.specs.SetSearch.{found_in}
 use Rattle.om_graph.specs.Tuples.{met, met_by, met_from, met_over, met_over_all, tuples}
@@ -27,7 +28,7 @@ filtered t f (x ∷ xs) = by (t x) (filtered t f xs)
 pub length_at_numbers : {A : Type 0} (xs : List A) (is : List ℕ) (ks : List A) → at_numbers xs is ≡ Some ks → length is ≡ length ks
 length_at_numbers xs [] ks e = ap length (same_Some [] ks e)
 length_at_numbers xs (i ∷ is) ks e =
-    let a = then_some (slice_get xs i) (λ x. and_then (at_numbers xs is) (λ zs. Some (x ∷ zs))) ks e in
+    let a = then_some (slice_get xs i) (λ x. at_numbers xs is >>= λ zs. Some (x ∷ zs)) ks e in
     let b = then_some (at_numbers xs is) (λ zs. Some (a.0 ∷ zs)) ks a.2 in
     ap suc (length_at_numbers xs is b.0 b.1) ∙ ap length (same_Some (a.0 ∷ b.0) ks b.2)
 

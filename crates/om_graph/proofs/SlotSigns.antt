@@ -1,10 +1,10 @@
 -- A slot at which nothing stands crosses nothing.
-use Rattle.std.proofs.Common.{◌≡◌, ℕ, suc, ◌+◌, ◌<◌, ◌≤◌, List, [], ◌∷◌, ◌++◌, length, Option, None, refl, ap, ap₂, sym, ◌∙◌, arith, nat_lt}
+use Rattle.std.proofs.Common.{◌≡◌, ℕ, suc, ◌+◌, ◌<◌, ◌≤◌, List, [], ◌∷◌, ◌++◌, length, Bool, true, false, ◌&&◌, Option, None, refl, ap, ap₂, sym, ◌∙◌, arith, nat_lt}
 use Rattle.std.specs.List.{count_by}
 use Rattle.std.proofs.lemmas.List.Sums.{sum_by-cons}
-use Rattle.om_legs.specs.Legs.{legs_of, meeting}
-use Rattle.om_legs.specs.Crossings.{crossings}
-use Rattle.om_legs.proofs.Bits.{same_sets}
+use Rattle.om_legs.specs.Legs.{holds, legs_of, meeting, set_of}
+use Rattle.om_legs.specs.Crossings.{crossings, is_odd}
+use Rattle.om_legs.proofs.Bits.{IsLegSet-set_of, holds-set_of, leg_range, same_sets}
 use Rattle.om_legs.proofs.LegLists.{holds_none, legs_of-empty}
 use Rattle.om_legs.proofs.Operations.{holds-meeting}
 use Rattle.om_graph.specs.declared.Key.{Key}
@@ -43,3 +43,37 @@ module _ (fermions : ℕ) where
   four_crossings (a ∷ b ∷ c ∷ []) l = end_none (a ∷ b ∷ c ∷ [])
   four_crossings (a ∷ b ∷ c ∷ d ∷ []) l = refl
   four_crossings (a ∷ b ∷ c ∷ d ∷ e ∷ slots) l = absurd (omega (arith, l))
+
+-- without fermions none cross
+module _ (a b : ℕ) where
+  nothing : (p q : Bool) → q ≡ false → (p && q) ≡ false
+  nothing true q e = e
+  nothing false q e = refl
+
+  none_held : (k : ℕ) → holds (meeting b 0) k ≡ false
+  unfolding meeting
+  none_held k = by (holds (meeting b 0) k) refl
+    where
+      by : (h : Bool) → holds (set_of (λ l. holds b l && holds 0 l)) k ≡ h → holds (set_of (λ l. holds b l && holds 0 l)) k ≡ false
+      by true e =
+          let r = leg_range (set_of (λ l. holds b l && holds 0 l)) k (IsLegSet-set_of (λ l. holds b l && holds 0 l)) e in
+          holds-set_of (λ l. holds b l && holds 0 l) k r.0 r.1 ∙ nothing (holds b k) (holds 0 k) (holds_none k)
+      by false e = e
+
+  apart : crossings (legs_of (meeting a 0)) (legs_of (meeting b 0)) ≡ 0
+  apart =
+      ap (crossings (legs_of (meeting a 0))) (ap legs_of (same_sets (meeting b 0) 0 (λ k. none_held k ∙ sym (holds_none k))) ∙ legs_of-empty)
+      ∙ none_behind (legs_of (meeting a 0))
+
+without_with : (a : ℕ) (slots : List (Option Key)) → crossings_with 0 a slots ≡ 0
+unfolding crossings_with
+without_with a [] = refl
+without_with a (b ∷ slots) = ap₂ ◌+◌ (apart a (Rattle.om_graph.specs.Vertices.legs_in b)) (without_with a slots)
+
+without : (slots : List (Option Key)) → slot_crossings 0 slots ≡ 0
+unfolding slot_crossings
+without [] = refl
+without (a ∷ slots) = ap₂ ◌+◌ (without_with (Rattle.om_graph.specs.Vertices.legs_in a) slots) (without slots)
+
+pub even_without : (fermions : ℕ) (slots : List (Option Key)) → fermions ≡ 0 → is_odd (slot_crossings fermions slots) ≡ false
+even_without fermions slots e = ap (λ (f : ℕ). is_odd (slot_crossings f slots)) e ∙ ap is_odd (without slots)

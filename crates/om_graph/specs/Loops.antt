@@ -98,9 +98,12 @@ met_parts r meet ns rest parts = cond (keeps_edges r (rest ∷ parts)) (met_from
 unfoldable pub met_partition : {X : Type 0} → Reaction → (List ℕ → List Key → List X) → List Key → List ℕ → List X
 met_partition r meet ns parts = cond (all_in (is_outward r.scattering.size) parts && keeps_edges r parts) (met_from (λ (k : Key). k.legs) meet ns [] parts) []
 
--- what is chosen
+-- the places of what is chosen, and what is
+abbrev pub four_nodes : Chosen → List ℕ
+four_nodes c = c.first ∷ c.second ∷ c.third ∷ c.fourth ∷ []
+
 abbrev pub chosen_nodes : Chosen → List ℕ
-chosen_nodes c = take c.count c.nodes
+chosen_nodes c = take c.count (four_nodes c)
 
 -- what was found, without its sign
 abbrev pub fused_found : Fused → Found Key

@@ -1,11 +1,11 @@
 //! What fills the slots of the vertices at which nodes meet.
 ghost use Rattle.std.specs.Prelude.{◌≡◌, ◌≤◌, ◌<◌, ◌++◌, ◌∷◌, [], false, length, map, IsTrue, OnOk, None, Some};
-ghost use Rattle.om_cons.specs.Place.{IsIdentity};
 ghost use Rattle.om_graph.specs.Fillings.{AreFillings, AreVertices, entering, filled_at, filling_at, fillings_at, listed_sides, sides_of, upward_part};
 ghost use Rattle.om_graph.specs.Reactions.{reaction_in};
 
 use crate::Key;
 use crate::fields::{Meeting, Meetings};
+use crate::lookup::are_equal;
 use crate::parts::{Part, Parts, Side, fill, first_in, legs_of, put, sorted};
 use crate::reaction::Reaction;
 use om_legs::LegSet;
@@ -147,13 +147,6 @@ fn is_last(last: &Option<Sides>, sides: &Sides) -> bool
         Some(last) => are_equal(last, sides),
         None => false,
     }
-}
-
-fn are_equal<K: PartialEq>(a: &K, b: &K) -> bool
-    requires { IsIdentity K.eq }
-    ensures { IsTrue result → a.now ≡ b.now }
-{
-    *a == *b
 }
 
 // The fillings at these vertices, in place of others.

@@ -15,6 +15,7 @@ mod fillings;
 mod fusions;
 mod key_terms;
 pub mod laws;
+mod lookup;
 mod nodes;
 mod partitions;
 mod parts;

@@ -8,9 +8,13 @@ use crate::slots::Slots;
 use om_legs::{LegSet, cross_parity};
 
 /// Whether an odd number of pairs of fermions, the one behind an earlier slot, stand with the greater leg first.
+#[tactic(auto, using(crate::proofs::SlotSigns::even_without))]
 pub(crate) fn is_odd(slots: &Slots, fermions: LegSet) -> bool
     ensures { result ≡ is_odd_of (slot_crossings fermions slots.now.keys) }
 {
+    if fermions == LegSet::empty() {
+        return false;
+    }
     is_odd_among(&slots.keys, fermions)
 }
 

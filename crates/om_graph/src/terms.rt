@@ -63,7 +63,8 @@ pub(crate) fn branches_of(chosen: Chosen) -> Branches
     requires { 2 ≤ chosen.count }
     ensures { nodes_at result ≡ chosen_nodes chosen }
 {
-    let [a, b, c, d] = chosen.nodes;
+    let (a, b) = (chosen.first, chosen.second);
+    let (c, d) = (chosen.third, chosen.fourth);
     match chosen.count {
         2 => Branches {
             count: 2,

@@ -4,10 +4,11 @@ use Rattle.std.specs.Prelude.{slice_index}
 use Rattle.std.proofs.lemmas.Option.{none-some, same_Some}
 use Rattle.std.proofs.lemmas.Bool.{lt-ltb}
 use Rattle.std.proofs.lemmas.Bool.Decides.{nat_tests}
+use Rattle.om_ring.specs.OptionSteps.{◌>>=◌}
 use Rattle.om_ring.specs.Members.{In}
 use Rattle.om_model.specs.Order.{IsOrder, BeforeAll, Rising, numbers_lt}
 use Rattle.om_ring.proofs.Members.{in_filter}
-use Rattle.om_graph.specs.Graph.{and_then, at_numbers}
+use Rattle.om_graph.specs.Graph.{at_numbers}
 use Rattle.om_graph.proofs.SetNodes.{then_some, some_then, number_of}
 use Rattle.om_keystone.specs.NodeWaves.{one_or_none, keys_at}
 use Rattle.om_keystone.specs.Pruning.{is_marked, marked_of, numbers_from}
@@ -19,14 +20,14 @@ pub data At {A : Type 0} (xs : List A) : List ℕ → List A → Type 0 where
 pub at_of : {A : Type 0} (xs : List A) (ns : List ℕ) (ys : List A) → at_numbers xs ns ≡ Some ys → At xs ns ys
 at_of xs [] ys e = subst (At xs []) (same_Some [] ys e) at_none
 at_of xs (n ∷ ns) ys e =
-    let a = then_some (slice_get xs n) (λ x. and_then (at_numbers xs ns) (λ zs. Some (x ∷ zs))) ys e in
+    let a = then_some (slice_get xs n) (λ x. at_numbers xs ns >>= λ zs. Some (x ∷ zs)) ys e in
     let b = then_some (at_numbers xs ns) (λ zs. Some (a.0 ∷ zs)) ys a.2 in
     subst (At xs (n ∷ ns)) (same_Some (a.0 ∷ b.0) ys b.2) (at_more a.1 (at_of xs ns b.0 b.1))
 
 pub of_at : {A : Type 0} {xs : List A} {ns : List ℕ} {ys : List A} → At xs ns ys → at_numbers xs ns ≡ Some ys
 of_at at_none = refl
 of_at {xs = xs} (at_more {n = n} {ns = ns} {y = y} {ys = ys} e a) =
-    some_then (slice_get xs n) (λ x. and_then (at_numbers xs ns) (λ zs. Some (x ∷ zs))) y (y ∷ ys) e (some_then (at_numbers xs ns) (λ zs. Some (y ∷ zs)) ys (y ∷ ys) (of_at a) refl)
+    some_then (slice_get xs n) (λ x. at_numbers xs ns >>= λ zs. Some (x ∷ zs)) y (y ∷ ys) e (some_then (at_numbers xs ns) (λ zs. Some (y ∷ zs)) ys (y ∷ ys) (of_at a) refl)
 
 pub at_number : {A : Type 0} {xs : List A} {ns : List ℕ} {ys : List A} (n : ℕ) → At xs ns ys → In n ns → (y : A) × (slice_get xs n ≡ Some y) × In y ys
 at_number n at_none i = absurd i
