@@ -40,6 +40,7 @@ pub mod VertexChoices
 pub mod FoundMembers
 pub mod SplitMembers
 pub mod PartSizes
+pub mod Permuted
 pub mod SetOrder
 pub mod LegNodes
 pub mod FoundOrder

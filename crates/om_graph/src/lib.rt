@@ -12,6 +12,7 @@ mod closings;
 mod edges;
 mod fields;
 mod fillings;
+mod flow_rows;
 mod fusions;
 mod key_terms;
 pub mod laws;

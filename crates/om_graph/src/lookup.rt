@@ -7,7 +7,11 @@ use om_cons::laws::identical_keys;
 use std::hash::Hash;
 
 /// The place of a key. It is often the one before it, which takes no hash.
-pub(crate) fn find_from<K: Eq + Hash + Drop>(table: &Table<K>, near: usize, key: &K) -> Option<usize>
+pub(crate) fn find_from<K: Eq + Hash + Drop>(
+    table: &Table<K>,
+    near: usize,
+    key: &K,
+) -> Option<usize>
     requires { IsIdentity K.eq }
     ensures { result ≡ place_of K.eq table.now key.now }
 {
