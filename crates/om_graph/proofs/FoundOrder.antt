@@ -7,7 +7,6 @@ use Rattle.std.specs.Ordering.{ordering_then, nat_cmp, bool_cmp}
 use Rattle.std.proofs.Common.{Ordering, Less, Equal, Greater}
 use Rattle.std.specs.Cmp.Lexicographic.{slice_cmp}
 use Rattle.om_model.specs.Order.{numbers_lt}
-use Rattle.om_model.proofs.Rising.{numbers_order}
 use Rattle.om_colour.specs.contracts.FlowOrd.TheImpl as flow
 use Rattle.om_colour.specs.declared.Flow.{Flow}
 use Rattle.om_graph.specs.contracts.key_terms.RowOrd.TheImpl as row

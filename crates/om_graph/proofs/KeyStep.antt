@@ -1,9 +1,8 @@
 -- What closes over all legs gives the keystone terms and the flows.
-use Rattle.std.proofs.Common.{◌≡◌, ℕ, ◌+◌, ◌<◌, ◌≤◌, List, [], ◌∷◌, ◌++◌, map, flat_map, length, Bool, true, ◌&&◌, ◌⊎◌, inl, inr, refl, ap, ap₂, sym, subst, ◌∙◌, arith, Some, Result, Ok, Err, IsPermutation, IsSortedBy}
+use Rattle.std.proofs.Common.{◌≡◌, ℕ, ◌+◌, ◌<◌, ◌≤◌, List, [], ◌∷◌, ◌++◌, map, flat_map, length, Bool, true, ◌&&◌, ◌⊎◌, inl, inr, refl, ap, ap₂, sym, subst, ◌∙◌, arith, Some}
 use Rattle.std.specs.List.{filter}
-use Rattle.std.specs.Prelude.{All, OnOk, IfErr}
+use Rattle.std.specs.Prelude.{All}
 use Rattle.std.proofs.lemmas.List.{length-map}
-use Rattle.std.proofs.lemmas.List.Sorted.{IsPermutation-map, All-permutation}
 use Rattle.std.proofs.lemmas.Option.{same_Some}
 use Rattle.om_ring.specs.Members.{In, Different}
 use Rattle.om_legs.specs.Legs.{all_legs}
@@ -14,28 +13,25 @@ use Rattle.om_legs.proofs.Operations.{IsLegSet-all_legs}
 use Rattle.om_colour.specs.declared.Flow.{Flow}
 use Rattle.om_model.specs.Diagram.{all_in}
 use Rattle.om_model.specs.Order.{rising_of}
-use Rattle.om_graph.specs.declared.BuildFault.{BuildFault}
-use Rattle.om_graph.specs.declared.BuildFault.TheVariants.{Memory, TooLarge}
 use Rattle.om_graph.specs.declared.Key.{Key}
 use Rattle.om_graph.specs.declared.KeyTerm.{KeyTerm}
 use Rattle.om_graph.specs.declared.closings.Closed.{Closed}
 use Rattle.om_graph.specs.Graph.{Found, found_lt, at_numbers}
 use Rattle.om_graph.specs.Loops.{CanCloseOver, Signed, chosen_nodes, closed_at, closed_by, closed_found, closed_seen, counts, meet_closed, meetings_of, met_partition}
-use Rattle.om_graph.specs.Possible.{flow_lt, key_state_of, unsigned_key}
-use Rattle.om_graph.specs.Search.{State, add_all, flows_of, number_in, numbered}
-use Rattle.om_graph.specs.SetSearch.{closings_of, found_closed, found_in, keystone_splits, set_search}
+use Rattle.om_graph.specs.Possible.{flow_lt, unsigned_key}
+use Rattle.om_graph.specs.Search.{flows_of, number_in, numbered}
+use Rattle.om_graph.specs.SetSearch.{closings_of, found_closed, found_in, keystone_splits}
 use Rattle.om_graph.specs.SetWalk.{CanCloseAll, HasClosed, HasClosedSign, KeysHaveSigns}
 use Rattle.om_graph.specs.Tuples.{met_over_all}
-use Rattle.om_graph.specs.Vertices.{Reaction, closed_minus, fields_of, fusion, is_outward, keeps_edges}
-use Rattle.om_graph.proofs.Adding.{adding_is_step}
+use Rattle.om_graph.specs.Vertices.{Reaction, closed_minus, fields_of, is_outward, keeps_edges}
 use Rattle.om_graph.proofs.FoundMembers.{meets_closed}
 use Rattle.om_ring.proofs.Members.{in_map, from_flat_map}
 use Rattle.om_graph.proofs.Meetable.{can_close}
 use Rattle.om_graph.proofs.MeetingFields.{same_count}
 use Rattle.om_graph.proofs.Numbers.{found_order}
 use Rattle.om_graph.proofs.Orders.{flow_order}
-use Rattle.om_graph.proofs.SignedLists.{all_of_members, found_where, length_at_numbers, made_by, take_shorter}
-use Rattle.om_graph.proofs.Sorted.{length-rising_of, sorted_is_rising, sorted_map}
+use Rattle.om_graph.proofs.SignedLists.{all_of_members, found_where, length_at_numbers, made_by}
+use Rattle.om_graph.proofs.Sorted.{length-rising_of}
 use Rattle.om_graph.proofs.SplitLists.{same_splits}
 use Rattle.om_graph.proofs.SplitMembers.{are_closings, closings_once}
 
