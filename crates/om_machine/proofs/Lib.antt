@@ -1,5 +1,6 @@
 pub mod WaveForms
 pub mod StepLoop
+pub mod StillEntries
 pub mod DecodedSame
 pub mod MomentumSums
 pub mod Inverting

@@ -6,6 +6,7 @@ pub mod Loaded
 pub mod Blocks
 pub mod Rows
 pub mod Bound
+pub mod Damping
 pub mod Machines
 pub mod LoadFaults
 pub mod Sets

@@ -7,7 +7,7 @@ ghost use Rattle.om_machine.specs.declared.sets.TheConstants.{SETS};
 ghost use Rattle.om_machine.specs.Momenta.{AreDenominators, AreEdges, AreProducts, HoldsEdgeMomenta, product_before, table_from};
 
 use crate::Event;
-use crate::momenta::denominator_of;
+use crate::momenta::{damping_of, denominator_of};
 use crate::numbers::Masses;
 use crate::reads::masses_in;
 use om_code::{Code, Den};
@@ -32,9 +32,13 @@ fn set_denominators<R: Ring<Mark = L>, L>(
     ensures length { length denominators.new ≡ length code.now.dens }
     ensures at_most { steps.new ≤ steps.old + length code.now.dens * (13 * R.cost ring.now) }
 {
+    let mut last = None;
     for (k, den) in code.dens.as_slice().iter().enumerate() {
-        let value = denominator_of(ring, code, masses, event, momenta, den, steps);
+        let row = usize::from(den.field / 2);
+        let damping = damping_of(ring, masses, row, last, steps);
+        let value = denominator_of(ring, code, masses, event, momenta, den, damping, steps);
         denominators.set(k, value);
+        last = Some(damping);
     }
 }
 

@@ -26,6 +26,7 @@ mod run;
 mod sets;
 mod slots;
 mod step;
+mod terms;
 mod vectors;
 
 pub use answer::Outcome;

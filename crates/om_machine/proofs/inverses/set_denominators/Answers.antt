@@ -20,7 +20,8 @@ loop-k-preserved g c =
       value = denominators-more o c.args.code.now t c.args.event.now c.loop-k.k c.den-item.result c.denominator_of-value.result c.loop-k.denominators c.set.new.self at within
           c.denominator_of-value.ensures.value c.set.ensures c.loop-k.invariant.value;
       length = ap length c.set.ensures ∙ simp length-set c.loop-k.invariant.length;
-      at_most = omega (arith, c.loop-k.invariant.at_most, c.denominator_of-value.ensures.at_most);
+      last = c.damping_of-damping.ensures.value;
+      at_most = omega (arith, c.loop-k.invariant.at_most, c.damping_of-damping.ensures.at_most, c.denominator_of-value.ensures.at_most);
     }
 
 pub returns-clause-value : goal.returns-clause-value

@@ -9,5 +9,5 @@ returns-clause-value g c =
     let o = g.R.Ring.ops r in
     let l = laws_from (g.R.Ring.element r) o (g.met.R.Ring.known r) (g.met.R.Ring.laws r) in
     let p = c.args.p.now in
-    let sum : c.add.result ≡ summed o p c.args.mass c.args.width = cc (c.add.ensures.value, c.dot2-more.ensures.value, c.mul-turned.ensures.value, c.imag.ensures, c.dot4-less.ensures.value, c.neg-opposite.ensures.value) in
+    let sum : c.multiply_add.result ≡ summed o p c.args.mass c.args.width = cc (c.multiply_add.ensures.value, c.add-rest.ensures.value, c.requires, c.dot4-less.ensures.value, c.neg-opposite.ensures.value) in
     sum ∙ denominator-summed o l p c.args.mass c.args.width
