@@ -1,23 +1,22 @@
 -- Numbers at the front of a line.
-use Rattle.std.proofs.Common.{◌≡◌, ℕ, suc, ◌+◌, ◌-◌, ◌*◌, ◌≤◌, ◌<◌, ◌^◌, nat_eq, bytes_eq, decimal, Bool, true, false, List, [], ◌∷◌, ◌++◌, length, take, drop, get_or, slice_index_or, refl, ap, sym, subst, ◌∙◌, arith, inl, inr}
-use Rattle.std.specs.Prelude.{Ok}
+use Rattle.std.proofs.Common.{◌≡◌, ℕ, zero, suc, ◌+◌, ◌-◌, ◌*◌, ◌≤◌, ◌<◌, ◌^◌, nat_eq, decimal, Bool, false, List, [], ◌∷◌, ◌++◌, length, take, drop, get_or, refl, ap, sym, subst, ◌∙◌, arith, inl, inr}
 use Rattle.std.specs.List.{prefix_len}
 use Rattle.std.proofs.Math.Seq.{take-add}
 use Rattle.std.proofs.lemmas.Bool.{cases_Bool, eqb-true}
 use Rattle.std.proofs.lemmas.Bool.Decides.{nat_tests}
-use Rattle.std.proofs.lemmas.List.{append-nil, append_assoc, length-append, take-append-drop, take_all, length-drop, length-take-le, get_or-take}
-use Rattle.om_ring.specs.Numerals.{AllDigits, NumeralFits, digits_value, digits_value_from, mark_text, numeral_text, shown_den, sign_text}
+use Rattle.std.proofs.lemmas.List.{append_assoc, length-append, take-append-drop, take_all, length-drop, length-take-le, get_or-take}
+use Rattle.om_ring.specs.Numerals.{AllDigits, digits_value, digits_value_from, mark_text, numeral_text, shown_den, sign_text}
 use Rattle.om_ring.specs.declared.numeral.Numeral.{Numeral}
-use Rattle.om_ring.proofs.NumeralTexts.{IsDigits-decimal, all_digits, decimal-digits_value_of}
+use Rattle.om_ring.proofs.NumeralTexts.{decimal-digits_value_of}
 use Rattle.om_event.specs.Fronts.{line_len}
 use Rattle.om_event.specs.Pieces.{in_piece, front_piece, behind_piece}
 use Rattle.om_event.specs.LineFronts.{line_of, spaces}
-use Rattle.om_event.specs.Written.{number_before, four_before, leg_before, wave_before, IsWritten}
+use Rattle.om_event.specs.Written.{number_before, four_before, leg_before, wave_before}
 use Rattle.om_lorentz.specs.declared.vectors.Four.{Four}
 use Rattle.om_kernel.specs.declared.waves.Wave.{Wave}
 use Rattle.om_kernel.specs.declared.waves.Wave.TheVariants as wave
 use Rattle.om_event.specs.declared.line.Leg.{Leg}
-use Rattle.om_event.proofs.EightDigits.{first_eight}
+use Rattle.om_event.proofs.EightDigits.{value_below}
 use Rattle.om_event.proofs.LineReads.{no_length}
 
 -- neither a space nor a line feed
@@ -106,6 +105,32 @@ decimal_at text n k d e h within lead =
     let c = decimal_of_digits (take k text) n d e h (omega (arith, size, lead.0)) (λ z. size ∙ lead.1 (sym first ∙ z)) in
     sym (take-append-drop k text) ∙ ap (λ (t : List ℕ). t ++ drop k text) c ∙ ap (λ (t : List ℕ). decimal n ++ t) (sym (rest_of text k))
 
+-- more than one digit with a zero in front write less than as many digits without
+zero_in_front : (text : List ℕ) (k : ℕ) → AllDigits (take (k + 2) text) → k + 2 < length text → get_or text 0 0 ≡ 48 → digits_value (take (k + 2) text) < 10 ^ (k + 1)
+zero_in_front [] k d l z = absurd (omega (arith, l))
+zero_in_front (b ∷ bs) k d l z =
+    let size : length (take (k + 1) bs) ≡ k + 1 = length-take-le (k + 1) bs (omega (arith, l)) in
+    let one : k + 2 ≡ suc (k + 1) = omega arith in
+    let ds : AllDigits (b ∷ take (k + 1) bs) = subst (λ (m : ℕ). AllDigits (take m (b ∷ bs))) one d in
+    let few = value_below 0 (take (k + 1) bs) ds.1 in
+    let scale : 10 ^ length (take (k + 1) bs) ≡ 10 ^ (k + 1) = ap (λ (m : ℕ). 10 ^ m) size in
+    let same : digits_value (take (k + 2) (b ∷ bs)) ≡ digits_value (take (k + 1) bs) = rw one (rw z refl) in
+    omega (arith, few, scale, same)
+
+-- so a number that isn't less has no zero in front
+pub no_zero_in_front : (text : List ℕ) (n k : ℕ) → AllDigits (take k text) → n ≡ digits_value (take k text) → k < length text
+    → 0 < k → (1 < k → 10 ^ (k - 1) ≤ n) → get_or text 0 0 ≡ 48 → k ≡ 1
+no_zero_in_front text n zero d e l some least z = absurd (omega (arith, some))
+no_zero_in_front text n (suc zero) d e l some least z = refl
+no_zero_in_front text n (suc (suc k)) d e l some least z =
+    let two : suc (suc k) ≡ k + 2 = omega arith in
+    let less : suc (suc k) - 1 ≡ k + 1 = omega arith in
+    let below = zero_in_front text k (subst (λ (m : ℕ). AllDigits (take m text)) two d) (omega (arith, l)) z in
+    let scale : 10 ^ (suc (suc k) - 1) ≡ 10 ^ (k + 1) = ap (λ (m : ℕ). 10 ^ m) less in
+    let same : digits_value (take (suc (suc k)) text) ≡ digits_value (take (k + 2) text) = ap (λ (m : ℕ). digits_value (take m text)) two in
+    let most = least (omega arith) in
+    absurd (omega (arith, below, scale, same, most, e))
+
 AllDigits-append : (xs ys : List ℕ) → AllDigits xs → AllDigits ys → AllDigits (xs ++ ys)
 AllDigits-append [] ys p q = q
 AllDigits-append (x ∷ xs) ys p q = (p.0, AllDigits-append xs ys p.1 q)
@@ -121,14 +146,6 @@ digits_more text k m p q = subst AllDigits (sym (take-add k m text)) (AllDigits-
 pub value_more : (text : List ℕ) (k m : ℕ) → digits_value (take (k + m) text) ≡ digits_value_from (digits_value (take k text)) (take m (drop k text))
 value_more text k m = ap digits_value (take-add k m text) ∙ digits_value_from-append 0 (take k text) (take m (drop k text))
 
-eight_from : (n a b c d e f g h : ℕ) → 10 * (10 * (10 * (10 * (10 * (10 * (10 * (10 * n + a) + b) + c) + d) + e) + f) + g) + h
-    ≡ n * 100000000 + (10 * (10 * (10 * (10 * (10 * (10 * (10 * (10 * 0 + a) + b) + c) + d) + e) + f) + g) + h)
-eight_from n a b c d e f g h = omega arith
-
--- eight digits behind a number
-pub value_of_more : (n : ℕ) (text : List ℕ) → 8 ≤ length text → digits_value_from n (take 8 text) ≡ n * 100000000 + digits_value (take 8 text)
-value_of_more n text l = rw (first_eight text l) (eight_from n (slice_index_or text 0 0 - 48) (slice_index_or text 1 0 - 48) (slice_index_or text 2 0 - 48) (slice_index_or text 3 0 - 48) (slice_index_or text 4 0 - 48) (slice_index_or text 5 0 - 48) (slice_index_or text 6 0 - 48) (slice_index_or text 7 0 - 48))
-
 -- the parts of a numeral, and what follows it
 pub numeral_joined : (neg imag : Bool) (num den stop : ℕ) (text unsigned behind_num behind_den behind rest : List ℕ) (x : Numeral)
     → text ≡ sign_text neg ++ unsigned → unsigned ≡ decimal num ++ behind_num → behind_num ≡ shown_den den ++ behind_den → behind_den ≡ mark_text imag ++ behind
@@ -140,12 +157,15 @@ numeral_joined neg imag num den stop text unsigned behind_num behind_den behind 
     ∙ ap (λ (t : List ℕ). sign_text neg ++ t) (append_assoc (decimal num) (shown_den den ++ mark_text imag) (stop ∷ rest)
     ∙ ap (λ (t : List ℕ). decimal num ++ t) (append_assoc (shown_den den) (mark_text imag) (stop ∷ rest)))))
 
+-- one digit is the decimal of its value
+pub one_digit : (k : ℕ) → k < 10 → (48 + k) ∷ [] ≡ decimal k
+one_digit k h = decimal_of_digits ((48 + k) ∷ []) k ((omega arith, omega (arith, h)), tt) (omega arith) (omega (arith, h)) (omega arith) (λ z. refl)
+
 -- the parts of a line, and what follows it
-pub leg_joined : (k n : ℕ) (text behind_number numerals waves rest : List ℕ) (leg : Leg Numeral) → text ≡ decimal n ++ behind_number → n ≡ k
+pub leg_joined : (k : ℕ) (text behind_number numerals waves rest : List ℕ) (leg : Leg Numeral) → text ≡ decimal k ++ behind_number
     → behind_number ≡ 32 ∷ numerals → numerals ≡ four_before leg.momentum 32 waves → waves ≡ wave_before leg.wave rest → text ≡ leg_before k leg rest
-leg_joined k n text behind_number numerals waves rest leg e same a b c =
-    e ∙ ap (λ (t : List ℕ). decimal n ++ t) (a ∙ ap (λ (t : List ℕ). 32 ∷ t) (b ∙ ap (four_before leg.momentum 32) c))
-    ∙ ap (λ (m : ℕ). decimal m ++ 32 ∷ four_before leg.momentum 32 (wave_before leg.wave rest)) same
+leg_joined k text behind_number numerals waves rest leg e a b c =
+    e ∙ ap (λ (t : List ℕ). decimal k ++ t) (a ∙ ap (λ (t : List ℕ). 32 ∷ t) (b ∙ ap (four_before leg.momentum 32) c))
 
 -- what follows is shorter
 number_shorter : (x : Numeral) (stop : ℕ) (rest : List ℕ) → length rest < length (number_before x stop rest)

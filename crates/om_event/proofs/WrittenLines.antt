@@ -1,13 +1,13 @@
 -- What the line of a leg that is written out of numerals says.
-use Rattle.std.proofs.Common.{cond, ◌≡◌, ℕ, ◌+◌, ◌-◌, ◌≤◌, ◌<◌, ◌^◌, nat_eq, bytes_eq, decimal, Bool, true, false, List, [], ◌∷◌, ◌++◌, length, take, refl, ap, sym, ◌∙◌, arith}
+use Rattle.std.proofs.Common.{cond, ◌≡◌, ℕ, ◌+◌, ◌≤◌, ◌<◌, ◌^◌, nat_eq, bytes_eq, decimal, Bool, true, false, List, [], ◌∷◌, ◌++◌, length, take, refl, ap, sym, ◌∙◌, arith}
 use Rattle.std.specs.Prelude.{Result, Ok, Err}
 use Rattle.std.proofs.lemmas.Bool.{eq-eqb}
 use Rattle.std.proofs.lemmas.List.{length-append}
 use Rattle.std.proofs.lemmas.Slice.Eq.{bytes_eq-Decides}
-use Rattle.om_ring.specs.Ops.{Ops}
+use Rattle.om_ring.specs.Ops.{Laws, Ops, number_of, signed}
+use Rattle.om_ring.proofs.ProductLemmas.{quotient-one}
 use Rattle.om_ring.specs.ResultSteps.{◌>>=◌}
-use Rattle.om_ring.specs.Numerals.{AllDigits, NumeralFits, mark_text, numeral_text, shown_den, sign_text}
-use Rattle.om_ring.specs.NumeralOf.{numeral_of}
+use Rattle.om_ring.specs.Numerals.{NumeralFits, mark_text, numeral_text, shown_den, sign_text}
 use Rattle.om_ring.specs.declared.numeral.Numeral.{Numeral}
 use Rattle.om_ring.proofs.NumeralTexts.{IsDigits-decimal, all_digits, numeral_of-shown}
 use Rattle.om_lorentz.specs.declared.vectors.Four.{Four}
@@ -25,7 +25,7 @@ use Rattle.om_event.specs.Pieces.{front_piece, behind_piece}
 use Rattle.om_event.specs.Lines.{value_in, leg_in, wave_size}
 use Rattle.om_event.specs.LineScan.{number_at, four_in, wave_in, wave_of_four, wave_of_one, numbers_in}
 use Rattle.om_event.specs.LineFronts.{line_of, spaces}
-use Rattle.om_event.specs.Written.{number_before, four_before, wave_before, leg_before, FourFits, WaveFits, LegFits, IsWritten, IsLineOf, value_at, four_value, value_as, scalar_value, wave_value, leg_value}
+use Rattle.om_event.specs.Written.{number_before, four_before, wave_before, leg_before, wave_of, FourFits, WaveFits, LegFits, IsWritten, IsLineOf, value_at, four_value, value_as, scalar_value, wave_value, leg_value}
 use Rattle.om_event.proofs.LineReads.{numbered}
 use Rattle.om_event.proofs.LeadingNumbers.{Solid, digits_solid, line-leading, line-closing, len-leading, len-closing, front-leading, front-closing, behind-leading, behind-closing, spaces-leading, spaces-closing}
 
@@ -184,6 +184,11 @@ wave_close Vector (wave.Row p) rest h k = cc
 wave_close Vector (wave.Column p) rest h k = cc
 
 module _ {E : Type 0} (o : Ops E) where
+  -- a whole number without mark
+  pub plain_value : Laws o → (x : Numeral) → x.den ≡ 1 → x.imag ≡ false → value_at o x ≡ Ok (signed o x.neg (number_of o x.num))
+  unfolding value_at
+  plain_value l x whole bare = rw (whole, bare, quotient-one o l x.num) refl
+
   -- the line of a leg says the values of its numerals
   pub line_said : (kind : WaveKind) (k : ℕ) (leg : Leg Numeral) (rest : List ℕ) → k < 2 ^ 64 → LegFits leg → kind_of leg.wave ≡ kind_named kind
       → leg_in o kind k (line_of (leg_before k leg rest)) ≡ leg_value o leg
@@ -228,3 +233,10 @@ module _ {E : Type 0} (o : Ops E) where
         few = few;
         more = omega (arith, w.size);
       }
+
+-- a wave made of four numerals has its kind
+pub wave_of-kind : (kind : WaveKind) (p : Four Numeral) → kind_of (wave_of kind p) ≡ kind_named kind
+wave_of-kind Scalar p = refl
+wave_of-kind Row p = refl
+wave_of-kind Column p = refl
+wave_of-kind Vector p = refl

@@ -6,6 +6,7 @@ pub mod Events
 pub mod Fronts
 pub mod LineFronts
 pub mod Written
+pub mod Eights
 pub mod Next
 pub mod Waits
 pub mod Laws

@@ -1,5 +1,5 @@
 -- The text of a line, written out of numerals, and what it says.
-use Rattle.std.specs.Prelude.{ℕ, ◌≡◌, ◌≤◌, ◌<◌, ◌+◌, List, ◌∷◌, ◌++◌, length, take, Result, Ok, Err, decimal}
+use Rattle.std.specs.Prelude.{ℕ, ◌≡◌, ◌≤◌, ◌<◌, ◌+◌, List, ◌∷◌, ◌++◌, length, take, Result, Ok, decimal}
 use Rattle.om_ring.specs.Ops.{Ops}
 use Rattle.om_ring.specs.ResultSteps.{◌>>=◌}
 use Rattle.om_ring.specs.Products.{value_of}
@@ -11,6 +11,7 @@ use Rattle.om_kernel.specs.declared.waves.Wave.TheVariants as wave
 use Rattle.om_event.specs.declared.cause.Cause.{Cause}
 use Rattle.om_event.specs.declared.line.Leg.{Leg}
 use Rattle.om_event.specs.declared.kind.WaveKind.{WaveKind}
+use Rattle.om_event.specs.declared.kind.WaveKind.TheVariants.{Scalar, Row, Column, Vector}
 use Rattle.om_event.specs.declared.limits.TheConstants.{MOST_LINE_BYTES}
 use Rattle.om_event.specs.Fronts.{line_len}
 use Rattle.om_event.specs.Lines.{leg_in, valued}
@@ -33,6 +34,16 @@ wave_before (wave.Vector p) rest = four_before p 10 rest
 -- the line of leg k, and the rest
 abbrev pub leg_before : ℕ → Leg Numeral → List ℕ → List ℕ
 leg_before k leg rest = decimal k ++ 32 ∷ four_before leg.momentum 32 (wave_before leg.wave rest)
+
+-- the wave of a kind, of which a scalar's numeral is the first of four
+abbrev pub wave_of : WaveKind → Four Numeral → Wave Numeral
+wave_of Scalar p = wave.Scalar p.t
+wave_of Row p = wave.Row p
+wave_of Column p = wave.Column p
+wave_of Vector p = wave.Vector p
+
+abbrev pub leg_of : WaveKind → Four Numeral → Four Numeral → Leg Numeral
+leg_of kind p w = record { momentum = p; wave = wave_of kind w }
 
 -- the numbers fit 64 bits
 pub record FourFits (p : Four Numeral) : Type 0 where

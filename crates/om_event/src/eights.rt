@@ -1,17 +1,52 @@
 //! Eight digits at a time.
 ghost use Rattle.std.specs.Prelude.{◌≡◌, ◌≤◌, ◌<◌, length, take, IfSome};
 ghost use Rattle.om_ring.specs.Numerals.{AllDigits, digits_value};
-
-// The upper half of each of eight bytes.
-const UPPER_HALVES: u64 = 0xf0f0_f0f0_f0f0_f0f0;
+ghost use Rattle.om_event.specs.Eights.{AreEight, word_of};
 
 // Eight times "0".
 const ZEROS: u64 = 0x3030_3030_3030_3030;
 
-// Eight times what takes a byte behind "9" to another upper half.
-const SIXES: u64 = 0x0606_0606_0606_0606;
+// The highest bit of each of eight bytes.
+const HIGHEST: u64 = 0x8080_8080_8080_8080;
 
-// The number that eight digits at the front write, if there are as many. All bytes are looked at together.
+// Eight times what takes a byte behind 9 to its highest bit.
+const BEHIND_NINE: u64 = 0x7676_7676_7676_7676;
+
+// Every second byte of eight.
+const SECOND_BYTES: u64 = 0x00ff_00ff_00ff_00ff;
+
+// Every second pair of bytes of four.
+const SECOND_PAIRS: u64 = 0x0000_ffff_0000_ffff;
+
+// The eight bytes at the front, the first the lowest.
+#[inline(always)]
+fn word_at_front(text: &[u8]) -> Option<u64>
+    ensures within { IfSome result (λ _. 8 ≤ length text.now) }
+    ensures word { IfSome result (λ w. w ≡ word_of (take 8 text.now)) }
+{
+    let [a, b, c, d, e, f, g, h, ..] = text else {
+        return None;
+    };
+    Some(u64::from_le_bytes([*a, *b, *c, *d, *e, *f, *g, *h]))
+}
+
+// The number that the digits of these values write, if the eight bytes are such. All are looked at together.
+#[inline(always)]
+fn joined(values: u64) -> Option<u64>
+    ensures eight { IfSome result (λ n. AreEight values n) }
+{
+    if values & HIGHEST != 0 {
+        return None;
+    }
+    if (values + BEHIND_NINE) & HIGHEST != 0 {
+        return None;
+    }
+    let pairs = (values * 10 + values / 256) & SECOND_BYTES;
+    let fours = (pairs * 100 + pairs / 65_536) & SECOND_PAIRS;
+    Some((fours * 10_000 + fours / 4_294_967_296) % 4_294_967_296)
+}
+
+// The number that eight digits at the front write, if there are as many.
 #[inline(always)]
 pub(crate) fn eight_at_front(text: &[u8]) -> Option<u64>
     ensures within { IfSome result (λ _. 8 ≤ length text.now) }
@@ -19,23 +54,7 @@ pub(crate) fn eight_at_front(text: &[u8]) -> Option<u64>
     ensures value { IfSome result (λ n. n ≡ digits_value (take 8 text.now)) }
     ensures below { IfSome result (λ n. n < 100000000) }
 {
-    let [a, b, c, d, e, f, g, h, ..] = text else {
-        return None;
-    };
-    let word = u64::from_le_bytes([*a, *b, *c, *d, *e, *f, *g, *h]);
-    if word & UPPER_HALVES != ZEROS {
-        return None;
-    }
-    if (word + SIXES) & UPPER_HALVES != ZEROS {
-        return None;
-    }
-    let digits = word - ZEROS;
-    // each byte with the one behind it, of which every second counts
-    let pairs = digits * 10 + digits / 256;
-    Some(
-        pairs % 256 * 1_000_000
-            + pairs / 65_536 % 256 * 10_000
-            + pairs / 4_294_967_296 % 256 * 100
-            + pairs / 281_474_976_710_656 % 256,
-    )
+    let word = word_at_front(text)?;
+    let number = joined(word.wrapping_sub(ZEROS))?;
+    Some(number)
 }

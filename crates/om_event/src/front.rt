@@ -10,7 +10,23 @@ use crate::line::Leg;
 use crate::value::leg_value;
 use crate::written::leg_at_front;
 use crate::{Cause, MOST_LINE_BYTES, WaveKind};
-use om_ring::{Ring, Steps};
+use om_lorentz::Four;
+use om_ring::{Numeral, Ring, Steps};
+
+const ZERO: Numeral = Numeral {
+    neg: false,
+    num: 0,
+    den: 1,
+    imag: false,
+};
+
+// Where numerals are read into.
+const NO_NUMERALS: Four<Numeral> = Four {
+    t: ZERO,
+    x: ZERO,
+    y: ZERO,
+    z: ZERO,
+};
 
 // What a line says of its leg, and the length of the line without the line feed.
 #[derive(Clone, Copy)]
@@ -33,12 +49,14 @@ pub(crate) fn line_at_front<R: Ring<Mark = L>, L>(
     ensures at_most { steps.new ≤ steps.old + 32 * R.cost ring.now }
     ensures idle { result ≡ None → steps.new ≡ steps.old }
 {
-    let written = leg_at_front(kind, k, text)?;
-    if written.len > MOST_LINE_BYTES {
+    let mut momentum = NO_NUMERALS;
+    let mut wave = NO_NUMERALS;
+    let len = leg_at_front(kind, k, text, &mut momentum, &mut wave)?;
+    if len > MOST_LINE_BYTES {
         return None;
     }
     Some(ReadLine {
-        leg: leg_value(ring, &written.leg, steps),
-        len: written.len,
+        leg: leg_value(ring, kind, &momentum, &wave, steps),
+        len,
     })
 }

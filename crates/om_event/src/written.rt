@@ -1,34 +1,52 @@
 //! The numerals of a line, from its front.
-ghost use Rattle.std.specs.Prelude.{◌≡◌, ◌++◌, ◌∷◌, ◌≤◌, ◌<◌, ◌^◌, ◌+◌, length, IfSome, IsTrue, get_or, decimal};
+ghost use Rattle.std.specs.Prelude.{◌≡◌, ◌++◌, ◌∷◌, ◌≤◌, ◌<◌, ◌^◌, ◌+◌, ◌-◌, length, IfSome, decimal};
 ghost use Rattle.om_ring.specs.Numerals.{NumeralFits, mark_text, numeral_text, shown_den, sign_text};
-ghost use Rattle.om_kernel.specs.Waves.{kind_of};
-ghost use Rattle.om_event.specs.Kinds.{kind_named};
-ghost use Rattle.om_event.specs.Written.{FourFits, IsWritten, LegFits, WaveFits, four_before, number_before, wave_before};
+ghost use Rattle.om_event.specs.Written.{FourFits, IsWritten, LegFits, WaveFits, four_before, leg_of, number_before, wave_before, wave_of};
 
 use crate::WaveKind;
 use crate::digits::{Digits, digits_at_front};
-use crate::line::Leg;
-use om_kernel::Wave;
 use om_lorentz::Four;
 use om_ring::Numeral;
 
-// Whether so many digits at the front are those of a number.
-fn begins_number(text: &[u8], len: usize) -> bool
-    requires { len < length text.now }
-    ensures { IsTrue result → (0 < len) × (get_or text.now 0 0 ≡ 48 → len ≡ 1) }
+// The least number that so many digits write without a zero in front.
+#[inline(always)]
+fn least_of_len(len: usize) -> Option<u64>
+    ensures { IfSome result (λ least. (0 < len) × (1 < len → least ≡ 10 ^ (len - 1))) }
 {
-    len == 1 || (len > 1 && text[0] != b'0')
+    match len {
+        1 => Some(0),
+        2 => Some(10),
+        3 => Some(100),
+        4 => Some(1_000),
+        5 => Some(10_000),
+        6 => Some(100_000),
+        7 => Some(1_000_000),
+        8 => Some(10_000_000),
+        9 => Some(100_000_000),
+        10 => Some(1_000_000_000),
+        11 => Some(10_000_000_000),
+        12 => Some(100_000_000_000),
+        13 => Some(1_000_000_000_000),
+        14 => Some(10_000_000_000_000),
+        15 => Some(100_000_000_000_000),
+        16 => Some(1_000_000_000_000_000),
+        17 => Some(10_000_000_000_000_000),
+        18 => Some(100_000_000_000_000_000),
+        19 => Some(1_000_000_000_000_000_000),
+        20 => Some(10_000_000_000_000_000_000),
+        _ => None,
+    }
 }
 
 // The decimal at the front, and what follows it.
 #[inline(always)]
-#[tactic(auto, using(crate::proofs::LeadingNumbers::decimal_at))]
 fn decimal_at_front(text: &[u8]) -> Option<(u64, &[u8])>
     ensures split { IfSome result (λ d. text.now ≡ decimal d.0 ++ d.1.now) }
     ensures fits { IfSome result (λ d. d.0 < 2 ^ 64) }
 {
     let Digits { value, len } = digits_at_front(text)?;
-    if !begins_number(text, len) {
+    // the first digit isn't looked at again, since the compiler then loads the bytes of a word one by one
+    if value < least_of_len(len)? {
         return None;
     }
     Some((value, &text[len..]))
@@ -85,88 +103,86 @@ fn behind_byte(text: &[u8], byte: u8) -> Option<&[u8]>
     }
 }
 
-// The numeral at the front in its canonical text, and what follows the byte behind it.
+// Reads the numeral at the front in its canonical text, and answers what follows the byte behind it.
 #[inline(always)]
 #[tactic(auto, using(crate::proofs::LeadingNumbers::numeral_joined))]
-fn numeral_before(text: &[u8], stop: u8) -> Option<(Numeral, &[u8])>
-    ensures split { IfSome result (λ n. text.now ≡ number_before n.0 stop n.1.now) }
-    ensures fits { IfSome result (λ n. NumeralFits n.0) }
+fn numeral_before<'a>(text: &'a [u8], stop: u8, numeral: &mut Numeral) -> Option<&'a [u8]>
+    ensures split { IfSome result (λ rest. text.now ≡ number_before numeral.new stop rest.now) }
+    ensures fits { IfSome result (λ _. NumeralFits numeral.new) }
 {
     let (neg, unsigned) = sign_at_front(text);
     let (num, behind_num) = decimal_at_front(unsigned)?;
+    numeral.neg = neg;
+    numeral.num = num;
+    if let Some(rest) = behind_byte(behind_num, stop) {
+        numeral.den = 1;
+        numeral.imag = false;
+        return Some(rest);
+    }
     let (den, behind_den) = denominator_at_front(behind_num)?;
     let (imag, behind) = mark_at_front(behind_den);
     let rest = behind_byte(behind, stop)?;
-    let numeral = Numeral {
-        neg,
-        num,
-        den,
-        imag,
-    };
-    Some((numeral, rest))
+    numeral.den = den;
+    numeral.imag = imag;
+    Some(rest)
 }
 
-// Four of them with spaces between them.
-fn four_before(text: &[u8], stop: u8) -> Option<(Four<Numeral>, &[u8])>
-    ensures split { IfSome result (λ f. text.now ≡ four_before f.0 stop f.1.now) }
-    ensures fits { IfSome result (λ f. FourFits f.0) }
+// Reads four of them with spaces between them.
+fn four_before<'a>(text: &'a [u8], stop: u8, p: &mut Four<Numeral>) -> Option<&'a [u8]>
+    ensures split { IfSome result (λ rest. text.now ≡ four_before p.new stop rest.now) }
+    ensures fits { IfSome result (λ _. FourFits p.new) }
 {
-    let (t, behind_t) = numeral_before(text, b' ')?;
-    let (x, behind_x) = numeral_before(behind_t, b' ')?;
-    let (y, behind_y) = numeral_before(behind_x, b' ')?;
-    let (z, rest) = numeral_before(behind_y, stop)?;
-    Some((Four { t, x, y, z }, rest))
+    let behind_t = numeral_before(text, b' ', &mut p.t)?;
+    let behind_x = numeral_before(behind_t, b' ', &mut p.x)?;
+    let behind_y = numeral_before(behind_x, b' ', &mut p.y)?;
+    let rest = numeral_before(behind_y, stop, &mut p.z)?;
+    Some(rest)
 }
 
-// The numerals of a wave, before a line feed.
+// Reads the numerals of a wave, before a line feed. A scalar's is the first.
 #[inline(always)]
-fn wave_before(kind: WaveKind, text: &[u8]) -> Option<(Wave<Numeral>, &[u8])>
-    ensures split { IfSome result (λ w. text.now ≡ wave_before w.0 w.1.now) }
-    ensures fits { IfSome result (λ w. WaveFits w.0) }
-    ensures kind { IfSome result (λ w. kind_of w.0 ≡ kind_named kind) }
+fn wave_before<'a>(kind: WaveKind, text: &'a [u8], wave: &mut Four<Numeral>) -> Option<&'a [u8]>
+    ensures split { IfSome result (λ rest. text.now ≡ wave_before (wave_of kind wave.new) rest.now) }
+    ensures fits { IfSome result (λ _. WaveFits (wave_of kind wave.new)) }
 {
     match kind {
-        WaveKind::Scalar => {
-            let (x, rest) = numeral_before(text, b'\n')?;
-            Some((Wave::Scalar(x), rest))
-        }
-        WaveKind::Row => {
-            let (p, rest) = four_before(text, b'\n')?;
-            Some((Wave::Row(p), rest))
-        }
-        WaveKind::Column => {
-            let (p, rest) = four_before(text, b'\n')?;
-            Some((Wave::Column(p), rest))
-        }
-        WaveKind::Vector => {
-            let (p, rest) = four_before(text, b'\n')?;
-            Some((Wave::Vector(p), rest))
-        }
+        WaveKind::Scalar => numeral_before(text, b'\n', &mut wave.t),
+        WaveKind::Row | WaveKind::Column | WaveKind::Vector => four_before(text, b'\n', wave),
     }
 }
 
-// The numerals of a leg, and the length of its line without the line feed.
-#[derive(Clone, Copy)]
-pub(crate) struct Written {
-    pub(crate) leg: Leg<Numeral>,
-    pub(crate) len: usize,
-}
-
-// The line of leg `k` at the front, if it is whole and each of its numerals has its canonical text.
-pub(crate) fn leg_at_front(kind: WaveKind, k: u8, text: &[u8]) -> Option<Written>
-    ensures read { IfSome result (λ w. IsWritten k text.now w.leg w.len) }
-    ensures fits { IfSome result (λ w. LegFits w.leg) }
-    ensures kind { IfSome result (λ w. kind_of w.leg.wave ≡ kind_named kind) }
+// What follows the number of leg `k` at the front.
+#[inline(always)]
+fn behind_leg_number(text: &[u8], k: u8) -> Option<&[u8]>
+    ensures { IfSome result (λ rest. text.now ≡ decimal k ++ rest.now) }
 {
-    let (number, behind_number) = decimal_at_front(text)?;
-    if number != u64::from(k) {
-        return None;
+    if k < 10 {
+        let rest = behind_byte(text, b'0' + k)?;
+        return Some(rest);
     }
+    let (number, rest) = decimal_at_front(text)?;
+    if number == u64::from(k) {
+        Some(rest)
+    } else {
+        None
+    }
+}
+
+// Reads the line of leg `k` at the front, if it is whole and each of its numerals has its canonical text, and answers its length
+// without the line feed. Two fours are written in place, since a leg that is handed on is copied at each call.
+pub(crate) fn leg_at_front(
+    kind: WaveKind,
+    k: u8,
+    text: &[u8],
+    momentum: &mut Four<Numeral>,
+    wave: &mut Four<Numeral>,
+) -> Option<usize>
+    ensures read { IfSome result (λ len. IsWritten k text.now (leg_of kind momentum.new wave.new) len) }
+    ensures fits { IfSome result (λ _. LegFits (leg_of kind momentum.new wave.new)) }
+{
+    let behind_number = behind_leg_number(text, k)?;
     let numerals = behind_byte(behind_number, b' ')?;
-    let (momentum, waves) = four_before(numerals, b' ')?;
-    let (wave, rest) = wave_before(kind, waves)?;
-    Some(Written {
-        leg: Leg { momentum, wave },
-        len: text.len() - rest.len() - 1,
-    })
+    let waves = four_before(numerals, b' ', momentum)?;
+    let rest = wave_before(kind, waves, wave)?;
+    Some(text.len() - rest.len() - 1)
 }

@@ -1,4 +1,4 @@
-use Rattle.std.proofs.Common.{◌∙◌, ◌-◌, ap, arith, sym, subst, take, drop, length}
+use Rattle.std.proofs.Common.{◌∙◌, ◌-◌, ap, sym, subst, take, drop, length}
 use Rattle.om_ring.specs.Numerals.{AllDigits, digits_value, digits_value_from}
 use Rattle.om_event.proofs.LeadingNumbers.{digits_more, rest_of, value_more}
 use Rattle.om_event.proofs.digits.digits_at_front.Goals as goal

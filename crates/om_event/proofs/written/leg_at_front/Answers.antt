@@ -1,30 +1,30 @@
-use Rattle.std.proofs.Common.{◌≡◌, ◌+◌, ◌≤◌, length, ap, arith}
+use Rattle.std.proofs.Common.{length, ap, arith}
 use Rattle.om_ring.specs.declared.numeral.Numeral.{Numeral}
 use Rattle.om_event.specs.declared.line.Leg.{Leg}
-use Rattle.om_event.specs.Written.{leg_before}
+use Rattle.om_event.specs.Written.{leg_of}
 use Rattle.om_event.proofs.LeadingNumbers.{leg_joined, leg_shorter}
 use Rattle.om_event.proofs.written.leg_at_front.Goals as goal
 
 pub overflow_sub-result : goal.overflow_sub-result
 overflow_sub-result c =
-    let leg : Leg Numeral = record { momentum = c.in_ok-momentum.momentum; wave = c.in_ok-wave.wave } in
-    let whole = leg_joined c.args.k c.in_ok-number.number c.args.text.now c.in_ok-number.behind_number.now c.in_ok-numerals.numerals.now c.in_ok-momentum.waves.now c.in_ok-wave.rest.now leg c.in_ok-number.ensures.split (omega (arith, c.if-number-from.false, c.from.ensures)) c.in_ok-numerals.ensures c.in_ok-momentum.ensures.split c.in_ok-wave.ensures.split in
+    let leg : Leg Numeral = leg_of c.args.kind c.four_before.new.p c.wave_before.new.wave in
+    let whole = leg_joined c.args.k c.args.text.now c.in_ok-behind_number.behind_number.now c.in_ok-numerals.numerals.now c.in_ok-waves.waves.now c.in_ok-rest.rest.now leg c.in_ok-behind_number.ensures c.in_ok-numerals.ensures c.in_ok-waves.ensures.split c.in_ok-rest.ensures.split in
     let size = ap length whole in
-    let more = leg_shorter c.args.k leg c.in_ok-wave.rest.now in
+    let more = leg_shorter c.args.k leg c.in_ok-rest.rest.now in
     omega (arith, size, more)
 
 pub overflow_sub-result-2 : goal.overflow_sub-result-2
 overflow_sub-result-2 c =
-    let leg : Leg Numeral = record { momentum = c.in_ok-momentum.momentum; wave = c.in_ok-wave.wave } in
-    let whole = leg_joined c.args.k c.in_ok-number.number c.args.text.now c.in_ok-number.behind_number.now c.in_ok-numerals.numerals.now c.in_ok-momentum.waves.now c.in_ok-wave.rest.now leg c.in_ok-number.ensures.split (omega (arith, c.if-number-from.false, c.from.ensures)) c.in_ok-numerals.ensures c.in_ok-momentum.ensures.split c.in_ok-wave.ensures.split in
+    let leg : Leg Numeral = leg_of c.args.kind c.four_before.new.p c.wave_before.new.wave in
+    let whole = leg_joined c.args.k c.args.text.now c.in_ok-behind_number.behind_number.now c.in_ok-numerals.numerals.now c.in_ok-waves.waves.now c.in_ok-rest.rest.now leg c.in_ok-behind_number.ensures c.in_ok-numerals.ensures c.in_ok-waves.ensures.split c.in_ok-rest.ensures.split in
     let size = ap length whole in
-    let more = leg_shorter c.args.k leg c.in_ok-wave.rest.now in
+    let more = leg_shorter c.args.k leg c.in_ok-rest.rest.now in
     omega (arith, size, more)
 
 pub returns-clause-read : goal.returns-clause-read
 returns-clause-read c =
-    let leg : Leg Numeral = record { momentum = c.in_ok-momentum.momentum; wave = c.in_ok-wave.wave } in
-    let whole = leg_joined c.args.k c.in_ok-number.number c.args.text.now c.in_ok-number.behind_number.now c.in_ok-numerals.numerals.now c.in_ok-momentum.waves.now c.in_ok-wave.rest.now leg c.in_ok-number.ensures.split (omega (arith, c.if-number-from.false, c.from.ensures)) c.in_ok-numerals.ensures c.in_ok-momentum.ensures.split c.in_ok-wave.ensures.split in
+    let leg : Leg Numeral = leg_of c.args.kind c.four_before.new.p c.wave_before.new.wave in
+    let whole = leg_joined c.args.k c.args.text.now c.in_ok-behind_number.behind_number.now c.in_ok-numerals.numerals.now c.in_ok-waves.waves.now c.in_ok-rest.rest.now leg c.in_ok-behind_number.ensures c.in_ok-numerals.ensures c.in_ok-waves.ensures.split c.in_ok-rest.ensures.split in
     let size = ap length whole in
-    let more = leg_shorter c.args.k leg c.in_ok-wave.rest.now in
-    record { rest = c.in_ok-wave.rest.now; is = whole; size = omega (arith, size, more) }
+    let more = leg_shorter c.args.k leg c.in_ok-rest.rest.now in
+    record { rest = c.in_ok-rest.rest.now; is = whole; size = omega (arith, size, more) }
