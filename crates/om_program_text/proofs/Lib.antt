@@ -1,1 +1,4 @@
+pub mod Digits
+pub mod Emptied
+pub mod TermLines
 pub mod Texts

@@ -15,7 +15,7 @@ use Rattle.om_io.specs.Writing.{all_of}
 use Rattle.om_io.specs.Lines.{Words, line_text, lines_text}
 use Rattle.om_model.specs.TermText.{spaced}
 use Rattle.om_program_text.specs.ProgramText.{particle_words, vertex_words, leg_words, flow_words, den_words, slots_lines, instr_words, end_words, version_words, model_words, program_text}
-use Rattle.om_program_text.specs.Parts.{particle_parts, vertex_parts, model_parts, process_parts, instr_parts, program_parts}
+use Rattle.om_program_text.specs.Parts.{particle_parts, vertex_parts, model_parts, process_parts, front_parts, instr_parts}
 use Rattle.om_model.proofs.TermWords.{join_spaced}
 
 -- the first numeral, and the others behind stars
@@ -62,10 +62,10 @@ regroup_head o v e m n = simp append_assoc
 head_plain : (v n : List ℕ) → codes "omega " ++ v ++ codes "\nmodel " ++ n ++ codes "\n" ≡ line_text (codes "omega" ∷ v ∷ []) ++ line_text (codes "model" ∷ n ∷ [])
 head_plain v n = regroup_head (codes "omega ") v (10 ∷ []) (codes "model ") n
 
-regroup : (h1 h2 p v l f d s i e : List ℕ) → (h1 ++ (h2 ++ p)) ++ v ++ l ++ f ++ d ++ s ++ i ++ e ≡ all_of ((h1 ++ h2) ∷ all_of (p ∷ v ∷ []) ∷ all_of (l ∷ f ∷ d ∷ []) ∷ all_of (s ∷ i ∷ e ∷ []) ∷ [])
+regroup : (h1 h2 p v l f d s i e : List ℕ) → (h1 ++ (h2 ++ p)) ++ v ++ l ++ f ++ d ++ s ++ i ++ e ≡ all_of ((h1 ++ h2) ∷ all_of (p ∷ v ∷ []) ∷ all_of (l ∷ f ∷ d ∷ []) ∷ s ∷ []) ++ all_of (i ∷ e ∷ [])
 regroup h1 h2 p v l f d s i e = simp (append_assoc, append-nil)
 
-pub program_of_parts : (c : Code) → all_of (program_parts c) ≡ program_text c
+pub program_of_parts : (c : Code) → all_of (front_parts c) ++ all_of (instr_parts c.version c.instrs) ≡ program_text c
 program_of_parts c =
     let ps = c.model.particles in
     let omega_line = line_text (version_words c.version) in
@@ -85,4 +85,4 @@ program_of_parts c =
     let s = lines_both (a ++ vs ++ ls ++ fs ++ ds) ss _ (lines_text ss) d refl in
     let i = lines_both (a ++ vs ++ ls ++ fs ++ ds ++ ss) is _ _ s (lines_of (instr_words c.version) c.instrs) in
     let e = lines_both (a ++ vs ++ ls ++ fs ++ ds ++ ss ++ is) (end_words ∷ []) _ (codes "end\n") i refl in
-    sym (e ∙ regroup omega_line model_line _ _ _ _ _ _ _ _ ∙ ap (λ t. all_of (t ∷ all_of (model_parts c) ∷ all_of (process_parts c) ∷ all_of (instr_parts c) ∷ [])) (sym (head_plain (decimal c.version) c.model.name)))
+    sym (e ∙ regroup omega_line model_line _ _ _ _ _ _ _ _ ∙ ap (λ t. all_of (t ∷ all_of (model_parts c) ∷ all_of (process_parts c) ∷ lines_text ss ∷ []) ++ all_of (instr_parts c.version c.instrs)) (sym (head_plain (decimal c.version) c.model.name)))

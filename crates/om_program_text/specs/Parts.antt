@@ -3,6 +3,7 @@ use Rattle.std.specs.Prelude.{ℕ, List, [], ◌∷◌, ◌++◌, flat_map, deci
 use Rattle.om_model.specs.declared.model.Particle.{Particle}
 use Rattle.om_model.specs.declared.model.Vertex.{Vertex}
 use Rattle.om_code.specs.declared.code.Code.{Code}
+use Rattle.om_code.specs.declared.code.Instr.{Instr}
 use Rattle.om_model.specs.FieldNames.{field_name}
 use Rattle.om_program_text.specs.Words.{product_word}
 use Rattle.om_model.specs.Words.{spin_word, structure_word, colour_word}
@@ -40,12 +41,10 @@ process_parts c =
     ∷ flat_map (λ w. line_text (flow_words w)) c.flows
     ∷ flat_map (λ d. line_text (den_words c.model.particles d)) c.dens ∷ []
 
-abbrev pub instr_parts : Code → List (List ℕ)
-instr_parts c =
-    lines_text (slots_lines c.version c.slots)
-    ∷ flat_map (λ i. line_text (instr_words c.version i)) c.instrs
-    ∷ codes "end\n" ∷ []
+-- all lines but those of the instructions and the last one
+abbrev pub front_parts : Code → List (List ℕ)
+front_parts c = head_text c ∷ all_of (model_parts c) ∷ all_of (process_parts c) ∷ lines_text (slots_lines c.version c.slots) ∷ []
 
--- the whole text
-abbrev pub program_parts : Code → List (List ℕ)
-program_parts c = head_text c ∷ all_of (model_parts c) ∷ all_of (process_parts c) ∷ all_of (instr_parts c) ∷ []
+-- the lines of the instructions and the last one
+abbrev pub instr_parts : ℕ → List Instr → List (List ℕ)
+instr_parts version instrs = flat_map (λ i. line_text (instr_words version i)) instrs ∷ codes "end\n" ∷ []

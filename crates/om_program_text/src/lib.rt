@@ -3,8 +3,10 @@
 //! A program text is lines of words with single spaces between; what words a line has is said in `specs/ProgramText`.
 #![tactic(auto)]
 
+mod block;
 mod instr_lines;
 mod model_lines;
+mod pieces;
 mod process_lines;
 mod writer;
 

@@ -5,13 +5,17 @@ ghost use Rattle.om_io.specs.Causes.{HasCause};
 ghost use Rattle.om_io.specs.Writing.{Writes, outlet, all_of};
 ghost use Rattle.om_io.specs.Lines.{lines_text};
 ghost use Rattle.om_program_text.specs.ProgramText.{program_text, slots_lines, version_words, model_words};
-ghost use Rattle.om_program_text.specs.Parts.{head_text, model_parts, process_parts, instr_parts, program_parts};
+ghost use Rattle.om_program_text.specs.Parts.{head_text, model_parts, process_parts, front_parts, instr_parts};
+ghost use Rattle.om_program_text.specs.declared.block.TheConstants.{BLOCK_BYTES};
+ghost use Rattle.om_io.specs.declared.buffer.TheConstants.{ROOM_BYTES};
 ghost use Rattle.om_code.specs.Plain.{IsPlain};
 
-use crate::instr_lines::InstrLines;
+use crate::block::{BLOCK_BYTES, Block, make_block_room, send_block};
+use crate::instr_lines::write_each;
 use crate::model_lines::{ParticleLines, VertexLines};
+use crate::pieces::put;
 use crate::process_lines::{DenLines, FlowLines, LegLines};
-use om_code::Code;
+use om_code::{Code, Instr};
 use om_io::{Failed, ROOM_BYTES, Sink, flush, make_room, write_rows};
 use om_ring::{LINE_BYTES, Line};
 
@@ -28,18 +32,21 @@ pub fn write_code<W: Sink>(code: &Code, to: &mut W) -> Result<(), Failed>
 {
     let mut line = Line::new();
     write_lines(code, to, &mut line)?;
-    flush(to, &mut line)
+    flush(to, &mut line)?;
+    let mut block = Block::new();
+    write_instrs(code.version, code.instrs.as_slice(), to, &mut block)?;
+    send_block(to, &mut block)
 }
 
-// Writes all lines through a buffer.
+// Writes all lines but those of the instructions and the last one through a buffer.
 fn write_lines<W: Sink>(code: &Code, to: &mut W, line: &mut Line) -> Result<(), Failed>
     requires { IsPlain code.now }
-    ensures { Writes (outlet (W.written to.old) (W.faults to.old) line.old) (outlet (W.written to.new) (W.faults to.new) line.new) (all_of (program_parts code.now)) result }
+    ensures { Writes (outlet (W.written to.old) (W.faults to.old) line.old) (outlet (W.written to.new) (W.faults to.new) line.new) (all_of (front_parts code.now)) result }
 {
     write_head(code, to, line)?;
     write_model(code, to, line)?;
     write_process(code, to, line)?;
-    write_instrs(code, to, line)
+    write_slots(code.version, code.slots, to, line)
 }
 
 fn write_model<W: Sink>(code: &Code, to: &mut W, line: &mut Line) -> Result<(), Failed>
@@ -61,14 +68,17 @@ fn write_process<W: Sink>(code: &Code, to: &mut W, line: &mut Line) -> Result<()
     write_rows(&DenLines { particles }, &code.dens, to, line)
 }
 
-fn write_instrs<W: Sink>(code: &Code, to: &mut W, line: &mut Line) -> Result<(), Failed>
-    requires { IsPlain code.now }
-    ensures { Writes (outlet (W.written to.old) (W.faults to.old) line.old) (outlet (W.written to.new) (W.faults to.new) line.new) (all_of (instr_parts code.now)) result }
+// Writes the lines of the instructions and the last one through a block.
+fn write_instrs<W: Sink>(
+    version: u8,
+    instrs: &[Instr],
+    to: &mut W,
+    block: &mut Block,
+) -> Result<(), Failed>
+    ensures { Writes (outlet (W.written to.old) (W.faults to.old) block.old) (outlet (W.written to.new) (W.faults to.new) block.new) (all_of (instr_parts version instrs.now)) result }
 {
-    let version = code.version;
-    write_slots(version, code.slots, to, line)?;
-    write_rows(&InstrLines { version }, &code.instrs, to, line)?;
-    write_end(to, line)
+    write_each(version, instrs, to, block)?;
+    write_end(to, block)
 }
 
 // The first two lines.
@@ -104,10 +114,17 @@ fn write_slots<W: Sink>(version: u8, slots: u32, to: &mut W, line: &mut Line) ->
     Ok(())
 }
 
-fn write_end<W: Sink>(to: &mut W, line: &mut Line) -> Result<(), Failed>
-    ensures { Writes (outlet (W.written to.old) (W.faults to.old) line.old) (outlet (W.written to.new) (W.faults to.new) line.new) (codes "end\n") result }
+fn write_end<W: Sink>(to: &mut W, block: &mut Block) -> Result<(), Failed>
+    ensures { Writes (outlet (W.written to.old) (W.faults to.old) block.old) (outlet (W.written to.new) (W.faults to.new) block.new) (codes "end\n") result }
 {
-    make_room(to, line)?;
-    line.push(b"end\n");
+    make_block_room(to, block)?;
+    push_end(block);
     Ok(())
+}
+
+fn push_end(block: &mut Block)
+    requires { length block.old + ROOM_BYTES ≤ BLOCK_BYTES }
+    ensures { block.new ≡ block.old ++ codes "end\n" }
+{
+    block.len = put(&mut block.bytes, block.len, b"end\n");
 }
