@@ -6,6 +6,7 @@ ghost use Rattle.om_io.specs.declared.buffer.TheConstants.{ROOM_BYTES};
 ghost use Rattle.om_model.specs.TermText.{branch_words, sign_word, spaced, term_words};
 ghost use Rattle.om_model.specs.declared.term_text.TheConstants.{TERM_BYTES};
 ghost use Rattle.om_program_text.specs.declared.block.TheConstants.{BLOCK_BYTES};
+ghost use Rattle.om_program_text.specs.declared.instr_lines.TheConstants.{BRANCHES_BYTES};
 ghost use Rattle.om_program_text.specs.ProgramText.{instr_words, load_words};
 
 use crate::block::{BLOCK_BYTES, Block, make_block_room};
@@ -14,6 +15,10 @@ use om_code::Instr;
 use om_io::{Failed, ROOM_BYTES, Sink};
 use om_legs::Branches;
 use om_model::TERM_BYTES;
+use om_ring::DECIMAL_BYTES;
+
+// The most bytes of the branches of a term, each behind a space.
+const BRANCHES_BYTES: usize = 4 * (1 + DECIMAL_BYTES);
 
 /// Writes the lines of instructions.
 pub(crate) fn write_each<W: Sink>(
@@ -128,9 +133,9 @@ fn sign_piece(minus: bool) -> &'static [u8]
 
 // Puts each branch behind a space in, and answers the place behind them.
 fn put_branches(to: &mut [u8], at: usize, branches: &Branches) -> usize
-    requires { at + 84 ≤ length to.old }
+    requires { at + BRANCHES_BYTES ≤ length to.old }
     ensures bytes { take result to.new ≡ take at to.old ++ spaced (branch_words branches.now) }
-    ensures short { result ≤ at + 84 }
+    ensures short { result ≤ at + BRANCHES_BYTES }
     ensures same { length to.new ≡ length to.old }
 {
     let mut end = at;
