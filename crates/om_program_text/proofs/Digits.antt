@@ -10,3 +10,6 @@ two_digits n le lt = sym (decimal_step n le (omega (arith, lt)) ∙ ap (λ t. t 
 
 pub three_digits : (n : ℕ) → 100 ≤ n → n < 1000 → (48 + n / 10 / 10) ∷ (48 + n / 10 % 10) ∷ (48 + n % 10) ∷ [] ≡ decimal n
 three_digits n le lt = sym (decimal_step n (omega (arith, le)) (omega (arith, lt)) ∙ ap (λ t. t ++ (48 + n % 10) ∷ []) (sym (two_digits (n / 10) (omega (arith, le)) (omega (arith, lt)))))
+
+pub four_digits : (n : ℕ) → 1000 ≤ n → n < 10000 → (48 + n / 10 / 10 / 10) ∷ (48 + n / 10 / 10 % 10) ∷ (48 + n / 10 % 10) ∷ (48 + n % 10) ∷ [] ≡ decimal n
+four_digits n le lt = sym (decimal_step n (omega (arith, le)) (omega (arith, lt)) ∙ ap (λ t. t ++ (48 + n % 10) ∷ []) (sym (three_digits (n / 10) (omega (arith, le)) (omega (arith, lt)))))

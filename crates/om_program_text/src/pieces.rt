@@ -37,6 +37,18 @@ pub(crate) fn put_number(to: &mut [u8], at: usize, k: u64) -> usize
             &[digit(k / 10 / 10), digit(k / 10 % 10), digit(k % 10)],
         );
     }
+    if k < 10_000 {
+        return put(
+            to,
+            at,
+            &[
+                digit(k / 10 / 10 / 10),
+                digit(k / 10 / 10 % 10),
+                digit(k / 10 % 10),
+                digit(k % 10),
+            ],
+        );
+    }
     let mut buffer = Buffer::new();
     put(to, at, buffer.format(k).as_bytes())
 }
