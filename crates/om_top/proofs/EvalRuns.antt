@@ -24,9 +24,10 @@ use Rattle.om_top.specs.AnswerText.{answer_text}
 use Rattle.om_top.specs.EvalRan.{Evaluates, OwesAnswer, process_kinds}
 use Rattle.om_top.specs.Outside.{Side, IsUntouched}
 use Rattle.om_top.specs.RunRan.{OwesMeaning, RunsCode, RunsOrNot}
-use Rattle.om_top.specs.Streamed.{HasNoAmplitude, Lines, Streamed, UnlessNone, kinds_of}
+use Rattle.om_top.specs.Streamed.{Lines, Streamed, UnlessNone, kinds_of}
 use Rattle.om_top.specs.declared.ending.Ending.{Ending}
 use Rattle.om_top.specs.declared.ending.Ending.TheVariants.{Done, EventFault, InputFault, OutFault, NoMemory}
+use Rattle.om_top.proofs.ProgramRuns.{never}
 use Rattle.om_top.proofs.Refused.{Went}
 
 -- lines of which each is owed for another reason too
@@ -84,14 +85,10 @@ module _ {E : Type 0} (o : Ops E) (show : E → List ℕ) (answers : EmittedCode
     evaluated e h = evaluates c.flows refl e h
 
     -- with want of memory
-    never_by : (flows : List Flow) (e : Ending) → (HasNoAmplitude input out e → ⊥) → (by_code e → ⊥) → UnlessNone flows input out by_code e → ⊥
-    never_by [] e a b h = a h
-    never_by (w ∷ ws) e a b h = b h
-
     pub went : (e : Ending) → RunsOrNot o show c input out e → Went (IsUntouched input × IsUntouched out) (Evaluates o show m p input out) e
     went Done h = evaluated Done h
     went (EventFault fault) h = evaluated (EventFault fault) h
     went InputFault h = evaluated InputFault h
     went OutFault h = evaluated OutFault h
     went NoMemory h = h
-    went e h = never_by c.flows e (λ x. x) (λ x. x.2) h
+    went e h = never c.flows input out by_code e (λ x. x) (λ x. x.2) h

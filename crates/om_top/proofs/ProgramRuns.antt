@@ -12,7 +12,7 @@ use Rattle.om_top.specs.declared.ending.Ending.TheVariants.{ProgramTooLong, Prog
 use Rattle.om_top.proofs.CallBounds.{loaded_code}
 
 -- what neither a stream of events nor the line without amplitude ends with
-never : {A : Type 0} (xs : List A) (input out : Side) (streamed : Ending → Type 0) (ending : Ending) → (HasNoAmplitude input out ending → ⊥) → (streamed ending → ⊥)
+pub never : {A : Type 0} (xs : List A) (input out : Side) (streamed : Ending → Type 0) (ending : Ending) → (HasNoAmplitude input out ending → ⊥) → (streamed ending → ⊥)
     → UnlessNone xs input out streamed ending → ⊥
 never [] input out streamed ending no_line no_stream h = no_line h
 never (x ∷ xs) input out streamed ending no_line no_stream h = no_stream h

@@ -1,5 +1,6 @@
 //! Whole runs over objects in memory.
 
+mod calls;
 mod case;
 mod check;
 mod compile;

@@ -100,6 +100,7 @@ pub(crate) fn check_with(
 #[derive(Drop)]
 pub(crate) struct Left {
     pub status: u8,
+    pub calls: u64,
     pub out: MemSink,
     pub err: MemSink,
 }
@@ -123,5 +124,10 @@ pub(crate) fn left_by(
     let status = run(
         alloc, &Zp, &words, &mut files, &mut input, &mut out, &mut err, &mut steps,
     );
-    Ok(Left { status, out, err })
+    Ok(Left {
+        status,
+        calls: steps.count(),
+        out,
+        err,
+    })
 }

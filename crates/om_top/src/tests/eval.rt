@@ -12,7 +12,7 @@ const THREE: Case = Case {
 };
 
 /// Two massive particles to eight, at rest.
-const TEN: Case = Case {
+pub(super) const TEN: Case = Case {
     words: &[
         "eval",
         "model.toml",
@@ -25,7 +25,7 @@ const TEN: Case = Case {
 };
 
 /// Two currents of spinors.
-const CURRENTS: Case = Case {
+pub(super) const CURRENTS: Case = Case {
     words: &["eval", "model.toml", "e- e+ -> mu- mu+"],
     file: Some(QED),
     input: "1 1 0 0 0 0 0 1 0\n2 1 0 0 0 1 0 0 0\n3 1 0 0 0 0 1 0 0\n4 -3 0 0 0 0 0 0 1\n",
