@@ -24,6 +24,7 @@ pub mod GraphSteps
 pub mod GraphWalk
 pub mod DenMembers
 pub mod NamedNodes
+pub mod Placing
 pub mod Emitted
 pub mod NodeFinds
 pub mod CodeSums

@@ -11,7 +11,7 @@ ghost use Rattle.om_emit.specs.GraphCode.{IsCodeOf};
 ghost use Rattle.om_emit.specs.Laws.{HasFewestSlots};
 
 use crate::dens::{edges_above, listed};
-use crate::placed::placed_all;
+use crate::placed::place_all;
 use crate::registers::register_code;
 use crate::slot_plan::first_fit;
 use om_code::{Code, Verified};
@@ -67,10 +67,10 @@ fn code_of(alloc: Global, model: &Model, process: &Process, graph: &Graph) -> Re
     let edges = edges_above(alloc, particles, n, nodes)?;
     let dens = listed(alloc, &edges)?;
     let in_order = dens.as_slice();
-    let registers = register_code(alloc, particles, n, in_order, graph)?;
-    let named = registers.as_slice();
+    let mut instrs = register_code(alloc, particles, n, in_order, graph)?;
+    let named = instrs.as_slice();
     let plan = first_fit(alloc, named, nodes.len() as u32)?;
-    let instrs = placed_all(alloc, named, &plan)?;
+    place_all(&mut instrs, &plan);
     let slots = plan.count();
     Ok(Code {
         version: 2,

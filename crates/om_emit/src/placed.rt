@@ -1,5 +1,5 @@
 //! Instructions with slots in place of registers.
-ghost use Rattle.std.specs.Prelude.{◌≡◌, map, length, IfOk};
+ghost use Rattle.std.specs.Prelude.{◌≡◌, map, length};
 ghost use Rattle.std.specs.List.{AllByRecursion};
 ghost use Rattle.om_code.specs.Slots.{nodes_of};
 ghost use Rattle.om_emit.specs.Planning.{slot_in_plan};
@@ -9,23 +9,17 @@ ghost use Rattle.om_code.specs.Ops.{op_of, placed_op};
 use crate::slot_plan::SlotPlan;
 use om_code::Instr;
 use om_legs::Branches;
-use om_ring::{List, NoMemory};
-use std::alloc::Global;
+use om_ring::List;
 
-/// Instructions with the slots of a plan in place of their registers.
-pub(crate) fn placed_all(
-    alloc: Global,
-    instrs: &[Instr],
-    plan: &SlotPlan,
-) -> Result<List<Instr>, NoMemory>
-    ensures ops { IfOk result (λ placed. map op_of placed ≡ map (placed_op (slot_in_plan plan.now)) (map op_of instrs.now)) }
-    ensures counted { IfOk result (λ placed. AllByRecursion CountsNodes placed) }
+/// Puts the slots of a plan in place of the registers of instructions.
+pub(crate) fn place_all(instrs: &mut List<Instr>, plan: &SlotPlan)
+    ensures ops { map op_of instrs.new ≡ map (placed_op (slot_in_plan plan.now)) (map op_of instrs.old) }
+    ensures counted { AllByRecursion CountsNodes instrs.new }
 {
-    let mut list = List::new(alloc);
-    for instr in instrs {
-        list.push(placed(instr, plan))?;
+    for k in 0..instrs.len() {
+        let instr = placed(instrs.at(k), plan);
+        instrs.set(k, instr);
     }
-    Ok(list)
 }
 
 fn placed(instr: &Instr, plan: &SlotPlan) -> Instr

@@ -17,7 +17,7 @@ register_code-requires-clause-there c = slice_has c.args.graph.now c.as_slice-pa
 pub first_fit-requires-clause-in_range : goal.first_fit-requires-clause-in_range
 first_fit-requires-clause-in_range c r h =
     let small : r < length c.args.graph.now.nodes = all_below c.args.graph.now c.args.model.now (length c.args.process.now.legs) c.as_slice-particles.result.now c.len-n.result c.as_slice-in_order.result.now c.as_slice-named.result.now c.as_slice-particles.ensures c.len-n.ensures (c.as_slice-in_order.ensures ∙ c.in_ok-dens.ensures ∙ c.in_ok-edges.ensures.edges ∙ ap (dens_of (anti_field c.as_slice-particles.result.now) c.len-n.result) c.as_slice-nodes.ensures) c.requires.built.order c.requires.built.legs
-    (ap (map op_of) c.as_slice-named.ensures ∙ c.in_ok-registers.ensures) c.requires.built r h in
+    (ap (map op_of) c.as_slice-named.ensures ∙ c.in_ok-instrs.ensures) c.requires.built r h in
     subst (λ n. r < n) (ap length (sym c.as_slice-nodes.ensures)) small
 
 pub returns-clause-code : goal.returns-clause-code
@@ -27,9 +27,9 @@ returns-clause-code c = record {
   legs = c.in_ok-fields_of.ensures;
   flows = c.in_ok-copy-2.ensures;
   dens = sym c.as_slice-in_order.ensures ∙ same_dens c.args.graph.now c.args.model.now (length c.args.process.now.legs) c.as_slice-particles.result.now c.len-n.result c.as_slice-in_order.result.now c.as_slice-named.result.now c.as_slice-particles.ensures c.len-n.ensures (c.as_slice-in_order.ensures ∙ c.in_ok-dens.ensures ∙ c.in_ok-edges.ensures.edges ∙ ap (dens_of (anti_field c.as_slice-particles.result.now) c.len-n.result) c.as_slice-nodes.ensures) c.requires.built.order c.requires.built.legs
-      (ap (map op_of) c.as_slice-named.ensures ∙ c.in_ok-registers.ensures);
+      (ap (map op_of) c.as_slice-named.ensures ∙ c.in_ok-instrs.ensures);
   slots = the_slots c.args.graph.now c.args.model.now (length c.args.process.now.legs) c.as_slice-particles.result.now c.len-n.result c.as_slice-in_order.result.now c.as_slice-named.result.now c.as_slice-particles.ensures c.len-n.ensures (c.as_slice-in_order.ensures ∙ c.in_ok-dens.ensures ∙ c.in_ok-edges.ensures.edges ∙ ap (dens_of (anti_field c.as_slice-particles.result.now) c.len-n.result) c.as_slice-nodes.ensures) c.requires.built.order c.requires.built.legs
-      (ap (map op_of) c.as_slice-named.ensures ∙ c.in_ok-registers.ensures) c.count-slots.result (c.count-slots.ensures ∙ c.in_ok-plan.ensures.count);
+      (ap (map op_of) c.as_slice-named.ensures ∙ c.in_ok-instrs.ensures) c.count-slots.result (c.count-slots.ensures ∙ c.in_ok-plan.ensures.count);
   instrs = the_instrs c.args.graph.now c.args.model.now (length c.args.process.now.legs) c.as_slice-particles.result.now c.len-n.result c.as_slice-in_order.result.now c.as_slice-named.result.now c.as_slice-particles.ensures c.len-n.ensures (c.as_slice-in_order.ensures ∙ c.in_ok-dens.ensures ∙ c.in_ok-edges.ensures.edges ∙ ap (dens_of (anti_field c.as_slice-particles.result.now) c.len-n.result) c.as_slice-nodes.ensures) c.requires.built.order c.requires.built.legs
-      (ap (map op_of) c.as_slice-named.ensures ∙ c.in_ok-registers.ensures) (slot_in_plan c.in_ok-plan.plan) c.as_slice-named.result.now c.in_ok-instrs.instrs c.in_ok-plan.ensures.plan refl c.in_ok-instrs.ensures.ops;
+      (ap (map op_of) c.as_slice-named.ensures ∙ c.in_ok-instrs.ensures) (slot_in_plan c.in_ok-plan.plan) c.in_ok-instrs.instrs c.place_all.new.instrs c.in_ok-plan.ensures.plan (sym c.as_slice-named.ensures) c.place_all.ensures.ops;
 }
