@@ -4,7 +4,6 @@ use Rattle.std.specs.Prelude.{Option, Some, None, slice_get}
 use Rattle.std.specs.List.{AllByRecursion, list_all}
 use Rattle.std.proofs.lemmas.Bool.Decides.{nat_tests}
 use Rattle.om_ring.specs.Members.{In}
-use Rattle.om_ring.specs.declared.numeral.Numeral.{Numeral}
 use Rattle.om_legs.specs.Legs.{IsLegSet, complement, holds, size}
 use Rattle.om_legs.proofs.ShareSums.{size-empty}
 use Rattle.om_lorentz.specs.declared.structures.Structure.{Structure}
