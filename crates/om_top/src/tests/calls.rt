@@ -106,14 +106,44 @@ fn answer_one(
     }
 }
 
+// Answers the one event of a text by the machine of a graph.
+fn answer_graph(
+    alloc: Global,
+    model: &Model,
+    process: &Process,
+    graph: &Pruned,
+    text: &str,
+    steps: &mut Steps<Book>,
+) -> Result<(), Fail>
+    requires formed { IsWellFormed model.now }
+    requires process { IsProcessOf model.now process.now }
+    requires canonical { IsCanonicalOf (reaction_of model.now process.now) graph.now }
+{
+    let mut machine = machine_of(alloc, model, process, graph, steps)?;
+    answer_one(alloc, &mut machine, text, steps)
+}
+
+// The same for the process of a model that another text is.
+fn answer_process(
+    alloc: Global,
+    model: &Model,
+    process: &str,
+    text: &str,
+    steps: &mut Steps<Book>,
+) -> Result<(), Fail>
+    requires accepted { IsAccepted zp model.now }
+    requires formed { IsWellFormed model.now }
+{
+    let process = process_of(alloc, model, process)?;
+    let graph = graph_of(alloc, model, &process)?;
+    answer_graph(alloc, model, &process, &graph, text, steps)
+}
+
 // How many calls the parts of a run of `eval` make.
-fn calls_of_parts(alloc: Global, file: &str, process: &str, input: &str) -> Result<u64, Fail> {
+fn calls_of_parts(alloc: Global, file: &str, process: &str, text: &str) -> Result<u64, Fail> {
     let mut steps = Steps::new(Book);
     let model = model_of(alloc, file, &mut steps)?;
-    let process = process_of(alloc, &model, process)?;
-    let graph = graph_of(alloc, &model, &process)?;
-    let mut machine = machine_of(alloc, &model, &process, &graph, &mut steps)?;
-    answer_one(alloc, &mut machine, input, &mut steps)?;
+    answer_process(alloc, &model, process, text, &mut steps)?;
     Ok(steps.count())
 }
 
