@@ -98,7 +98,7 @@ met_parts r meet ns rest parts = cond (keeps_edges r (rest ∷ parts)) (met_from
 unfoldable pub met_partition : {X : Type 0} → Reaction → (List ℕ → List Key → List X) → List Key → List ℕ → List X
 met_partition r meet ns parts = cond (all_in (is_outward r.scattering.size) parts && keeps_edges r parts) (met_from (λ (k : Key). k.legs) meet ns [] parts) []
 
--- the places of what is chosen, and what is
+-- all four places, with 0 where nothing is chosen
 abbrev pub four_nodes : Chosen → List ℕ
 four_nodes c = c.first ∷ c.second ∷ c.third ∷ c.fourth ∷ []
 

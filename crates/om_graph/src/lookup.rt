@@ -22,6 +22,7 @@ pub(crate) fn find_from<K: Eq + Hash + Drop>(
     table.find(key)
 }
 
+/// Whether two keys are equal, and then the same.
 pub(crate) fn are_equal<K: PartialEq>(a: &K, b: &K) -> bool
     requires { IsIdentity K.eq }
     ensures { IsTrue result → a.now ≡ b.now }
