@@ -1,7 +1,8 @@
 -- The reaction of a process over its model.
 use Rattle.std.specs.Prelude.{◌≡◌, ℕ, ◌-◌, List, length, Bool, ◌&&◌, nat_le, Some, slice_get}
 use Rattle.om_legs.specs.Legs.{set_of}
-use Rattle.om_colour.specs.Table.{Row}
+use Rattle.om_colour.specs.Table.{Row, choice_of}
+use Rattle.om_colour.specs.declared.Choice.{Choice}
 use Rattle.om_model.specs.ModelLines.{choice_in, is_dirac}
 use Rattle.om_model.specs.declared.model.Model.{Model}
 use Rattle.om_model.specs.declared.model.Vertex.{Vertex}
@@ -34,3 +35,7 @@ reaction_in x = reaction_of x.0 x.1
 -- the rows of the colour table that the vertices have
 abbrev pub HasRows : Model → List Row → Type 0
 HasRows m rows = (length rows ≡ length m.vertices) × ((k : ℕ) (v : Vertex) (row : Row) → slice_get m.vertices k ≡ Some v → slice_get rows k ≡ Some row → colours_of_vertex m.particles (Some v) ≡ Some row)
+
+-- these are choices of a row, from 0 on
+abbrev pub AreChoices : Row → List Choice → Type 0
+AreChoices row choices = (k : ℕ) (choice : Choice) → slice_get choices k ≡ Some choice → choice ≡ choice_of row k

@@ -12,6 +12,7 @@ ghost use Rattle.om_graph.specs.Vertices.{is_outward as is_outward_of, keeps_edg
 
 use crate::Key;
 use crate::edges::keep_all;
+use crate::known_row::KnownRow;
 use om_colour::{Choice, ColourRow, partial_of_leg};
 use om_legs::LegSet;
 use om_lorentz::Spin;
@@ -26,7 +27,7 @@ pub(crate) struct Reaction<'a> {
     model: &'a om_model::Model,
     process: &'a Process,
     fermions: LegSet,
-    rows: Vec<ColourRow>,
+    rows: Vec<KnownRow>,
 }
 
 impl<'a> Model for Reaction<'a> {
@@ -150,7 +151,7 @@ pub(crate) fn is_outward(set: LegSet, size: u8) -> bool
     twice < size || twice == size && !set.holds(1)
 }
 
-fn colour_rows(alloc: Global, model: &om_model::Model) -> Result<Vec<ColourRow>, NoMemory>
+fn colour_rows(alloc: Global, model: &om_model::Model) -> Result<Vec<KnownRow>, NoMemory>
     requires { IsWellFormed model.now }
     ensures { IfOk result (λ rows. HasRows model.now rows.items) }
 {
@@ -158,7 +159,8 @@ fn colour_rows(alloc: Global, model: &om_model::Model) -> Result<Vec<ColourRow>,
     let particles = model.particles.as_slice();
     for k in 0..model.vertices.len() {
         let row = row_of_vertex(particles, model.vertices.at(k));
-        if rows.push(row).is_err() {
+        let known = KnownRow::new(alloc, row)?;
+        if rows.push(known).is_err() {
             return Err(NoMemory);
         }
     }

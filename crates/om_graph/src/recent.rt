@@ -1,0 +1,50 @@
+//! Where flows stood when they were last met.
+
+use om_colour::Flow;
+use om_ring::NoMemory;
+use std::alloc::Global;
+
+// How many slots there are.
+const SLOTS: usize = 65_536;
+
+/// The numbers of flows that were met last, one for each slot. Any number may stand there: who looks there compares.
+#[derive(Drop)]
+pub(crate) struct Recent {
+    numbers: Vec<u32>,
+}
+
+impl Recent {
+    pub(crate) fn new(alloc: Global) -> Result<Recent, NoMemory> {
+        match Vec::from_elem(alloc, 0, SLOTS) {
+            Ok(numbers) => Ok(Recent { numbers }),
+            Err(_) => Err(NoMemory),
+        }
+    }
+
+    /// What stands in a slot.
+    pub(crate) fn at(&self, slot: usize) -> usize {
+        if slot < self.numbers.len() {
+            self.numbers[slot] as usize
+        } else {
+            0
+        }
+    }
+
+    /// Puts a number in a slot.
+    pub(crate) fn put(&mut self, slot: usize, number: u32) {
+        if slot < self.numbers.len() {
+            self.numbers[slot] = number;
+        }
+    }
+}
+
+/// The slot of a flow.
+pub(crate) fn slot_of(flow: &Flow) -> usize {
+    let [a, b, c, d, e, f, g, h, i, j, k, l] = flow.ends;
+    let low = u64::from_le_bytes([a, b, c, d, e, f, g, h]);
+    let high = u32::from_le_bytes([i, j, k, l]);
+    let mixed = low
+        .wrapping_mul(0x9E37_79B9_7F4A_7C15)
+        .wrapping_add(u64::from(high).wrapping_mul(0xC2B2_AE3D_27D4_EB4F));
+    (mixed >> 48) as usize
+}
