@@ -56,3 +56,4 @@ pub mod OnePossible
 pub mod Valences
 pub mod FirstLegs
 pub mod KeptFillings
+pub mod Words

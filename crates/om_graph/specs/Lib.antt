@@ -15,3 +15,4 @@ pub mod Fillings
 pub mod SetSearch
 pub mod SetWalk
 pub mod OnePossible
+pub mod Words

@@ -18,6 +18,8 @@ mod key_terms;
 mod kinds;
 mod known_row;
 pub mod laws;
+mod lines;
+mod linked;
 mod lookup;
 mod nodes;
 mod partitions;

@@ -12,7 +12,7 @@ use crate::BuildFault;
 use crate::chosen::Chosen;
 use crate::closings::{Closed, add_tuples};
 use crate::fillings::Fillings;
-use crate::nodes::Nodes;
+use crate::linked::Linked;
 use crate::reaction::{Reaction, is_outward};
 use crate::valence::has_valence;
 use om_legs::{FourParts, LegSet, ThreeParts, partitions3, partitions4};
@@ -22,7 +22,7 @@ use std::alloc::Global;
 pub(crate) fn add_closings(
     alloc: Global,
     reaction: &Reaction<'_>,
-    nodes: &Nodes,
+    nodes: &Linked<'_>,
     limit: usize,
     found: &mut Vec<Closed>,
 ) -> Result<(), BuildFault>
@@ -42,7 +42,7 @@ pub(crate) fn add_closings(
 fn add_threes(
     alloc: Global,
     reaction: &Reaction<'_>,
-    nodes: &Nodes,
+    nodes: &Linked<'_>,
     fillings: &mut Fillings,
     limit: usize,
     splits: ThreeParts,
@@ -66,7 +66,7 @@ fn add_threes(
 fn add_fours(
     alloc: Global,
     reaction: &Reaction<'_>,
-    nodes: &Nodes,
+    nodes: &Linked<'_>,
     fillings: &mut Fillings,
     limit: usize,
     splits: FourParts,
@@ -94,7 +94,7 @@ fn add_fours(
 fn add_partition(
     alloc: Global,
     reaction: &Reaction<'_>,
-    nodes: &Nodes,
+    nodes: &Linked<'_>,
     fillings: &mut Fillings,
     limit: usize,
     parts: &[LegSet],

@@ -8,6 +8,7 @@ ghost use Rattle.om_model.specs.ProcessOf.{IsProcessOf};
 ghost use Rattle.om_model.specs.WellFormed.{IsWellFormed};
 
 use crate::key_terms::add_key_terms;
+use crate::linked::Linked;
 use crate::nodes::Nodes;
 use crate::partitions::add_closings;
 use crate::reaction::Reaction;
@@ -78,6 +79,26 @@ fn add_keystones(
     alloc: Global,
     reaction: &Reaction<'_>,
     nodes: &Nodes,
+    limit: usize,
+    keys: &mut List<KeyTerm>,
+    flows: &mut Table<Flow>,
+) -> Result<(), BuildFault>
+    requires can { CanCloseAll (reaction_in reaction.now) nodes.now }
+    requires no_keys { keys.old ≡ [] }
+    requires no_flows { flows.old ≡ [] }
+    ensures { ClosesAll (reaction_in reaction.now) nodes.now limit keys.new flows.new result }
+{
+    let Ok(linked) = Linked::new(alloc, nodes) else {
+        return Err(BuildFault::Memory);
+    };
+    add_linked(alloc, reaction, &linked, limit, keys, flows)
+}
+
+// The same by nodes with their lines.
+fn add_linked(
+    alloc: Global,
+    reaction: &Reaction<'_>,
+    nodes: &Linked<'_>,
     limit: usize,
     keys: &mut List<KeyTerm>,
     flows: &mut Table<Flow>,

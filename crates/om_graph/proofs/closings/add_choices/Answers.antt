@@ -1,12 +1,13 @@
 use Rattle.std.proofs.Common.{List, Option, ◌≤◌, ◌+◌, ◌<◌, ◌++◌, ◌∷◌, [], map, flat_map, length, ap, subst, sym, ◌∙◌}
 use Rattle.om_colour.specs.Partials.{Fits, closed, no_hole}
 use Rattle.om_colour.specs.declared.Flow.{Flow}
-use Rattle.om_colour.specs.declared.SlotPartials.{SlotPartials}
+use Rattle.om_colour.specs.declared.Choice.{Choice}
 use Rattle.om_graph.specs.Loops.{Signed, chosen_nodes, counts, closed_at, closed_seen}
 use Rattle.om_graph.specs.declared.Key.{Key}
 use Rattle.om_graph.specs.Fillings.{key_at}
 use Rattle.om_graph.specs.Reactions.{reaction_in}
 use Rattle.om_graph.specs.Vertices.{four_slots}
+use Rattle.om_graph.specs.Words.{keys_behind, partials_behind}
 use Rattle.om_graph.proofs.Filling.{closed_filled}
 use Rattle.om_graph.proofs.ClosedFlows.{closes_at, flow_is, found_is, minus_is}
 use Rattle.om_graph.proofs.Steps.{none_yet, more, stops}
@@ -19,7 +20,11 @@ loop-choice-init c = record {
 }
 
 pub closed-requires-clause-fit : goal.closed-requires-clause-fit
-closed-requires-clause-fit c = subst (λ (p : SlotPartials). Fits p ((reaction_in c.args.reaction.now).choice c.args.meeting.vertex c.loop-choice.choice) no_hole) (sym c.partials_of-partials.ensures) (closes_at (reaction_in c.args.reaction.now) c.args.meeting.vertex c.args.keys.now c.slots_at-slots.result.keys c.loop-choice.choice c.requires.close (c.slots_at-slots.ensures.keys ∙ ap four_slots (ap (map (key_at c.args.keys.now)) c.requires.filled ∙ closed_filled (reaction_in c.args.reaction.now) c.args.meeting c.args.keys.now)) (subst (λ n. c.loop-choice.choice < n) c.choices-choice-end.ensures c.loop-choice-test.true))
+closed-requires-clause-fit c =
+    subst (λ (x : Choice). Fits (partials_behind c.args.parts.now c.args.keys.now) x no_hole) (sym c.choice.ensures)
+    (closes_at (reaction_in c.args.reaction.now) c.args.meeting.vertex c.args.keys.now (keys_behind c.args.parts.now c.args.keys.now) c.loop-choice.choice c.requires.close
+    (ap four_slots (ap (map (key_at c.args.keys.now)) c.requires.filled ∙ closed_filled (reaction_in c.args.reaction.now) c.args.meeting c.args.keys.now))
+    (subst (λ n. c.loop-choice.choice < n) c.choices-choice-end.ensures c.loop-choice-test.true))
 
 pub returns-in-Err : goal.returns-in-Err
 returns-in-Err c = record {
@@ -31,7 +36,12 @@ returns-in-Err c = record {
 
 pub loop-choice-preserved : goal.loop-choice-preserved
 loop-choice-preserved c =
-    let x = found_is (reaction_in c.args.reaction.now) c.args.meeting.vertex c.loop-choice.choice (chosen_nodes c.args.chosen) c.args.keys.now _ _ (flow_is (reaction_in c.args.reaction.now) c.args.meeting.vertex c.loop-choice.choice c.args.keys.now c.slots_at-slots.result.keys c.closed.result (c.slots_at-slots.ensures.keys ∙ ap four_slots (ap (map (key_at c.args.keys.now)) c.requires.filled ∙ closed_filled (reaction_in c.args.reaction.now) c.args.meeting c.args.keys.now)) (c.closed.ensures ∙ ap (λ (p : SlotPartials). closed p ((reaction_in c.args.reaction.now).choice c.args.meeting.vertex c.loop-choice.choice)) c.partials_of-partials.ensures)) (minus_is (reaction_in c.args.reaction.now) c.args.meeting.vertex c.args.keys.now c.fermions.result c.slots_at-slots.result.keys c.is_odd-minus.result (c.slots_at-slots.ensures.keys ∙ ap four_slots (ap (map (key_at c.args.keys.now)) c.requires.filled ∙ closed_filled (reaction_in c.args.reaction.now) c.args.meeting c.args.keys.now)) (subst (λ (s : List (Option Key)). length s ≤ 4) (ap (map (key_at c.args.keys.now)) c.requires.filled ∙ closed_filled (reaction_in c.args.reaction.now) c.args.meeting c.args.keys.now) c.slots_at-slots.ensures.few) c.fermions.ensures c.is_odd-minus.ensures) in
+    let there = ap four_slots (ap (map (key_at c.args.keys.now)) c.requires.filled ∙ closed_filled (reaction_in c.args.reaction.now) c.args.meeting c.args.keys.now) in
+    let flow = flow_is (reaction_in c.args.reaction.now) c.args.meeting.vertex c.loop-choice.choice c.args.keys.now (keys_behind c.args.parts.now c.args.keys.now) c.closed.result there
+    (c.closed.ensures ∙ ap (λ (x : Choice). closed (partials_behind c.args.parts.now c.args.keys.now) x) c.choice.ensures) in
+    let sign = minus_is (reaction_in c.args.reaction.now) c.args.meeting.vertex c.args.keys.now c.fermions.result (keys_behind c.args.parts.now c.args.keys.now) c.is_minus-minus.result there
+    (subst (λ (s : List (Option Key)). length s ≤ 4) (ap (map (key_at c.args.keys.now)) c.requires.filled ∙ closed_filled (reaction_in c.args.reaction.now) c.args.meeting c.args.keys.now) c.is_minus-minus.ensures.few) c.fermions.ensures c.is_minus-minus.ensures.sign in
+    let x = found_is (reaction_in c.args.reaction.now) c.args.meeting.vertex c.loop-choice.choice (chosen_nodes c.args.chosen) c.args.keys.now _ _ flow sign in
     record {
       all = more (λ k. closed_at (reaction_in c.args.reaction.now) (chosen_nodes c.args.chosen) c.args.keys.now c.args.meeting.vertex k ∷ []) c.loop-choice.choice (map closed_seen c.args.found.now.items) (map closed_seen c.loop-choice.found.items) (map closed_seen c.add.new.found.items) c.loop-choice.invariant.all
           (c.in_default.ensures.added.0 ∙ ap (λ (y : Signed Flow). map closed_seen c.loop-choice.found.items ++ y ∷ []) x);

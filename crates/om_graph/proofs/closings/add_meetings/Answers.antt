@@ -6,6 +6,8 @@ use Rattle.om_graph.specs.Fillings.{filled_at, fillings_at, sides_of}
 use Rattle.om_graph.specs.Loops.{Signed, chosen_nodes, closed_by, closed_seen, meetings_of}
 use Rattle.om_graph.specs.Reactions.{reaction_in}
 use Rattle.om_graph.specs.Vertices.{fields_of}
+use Rattle.om_graph.specs.Words.{lines_of_key}
+use Rattle.om_graph.proofs.AtNumbers.{mapped}
 use Rattle.om_graph.proofs.KeptFillings.{is_filling, over_meetings}
 use Rattle.om_graph.proofs.MeetingLists.{meeting_vertex}
 use Rattle.om_graph.proofs.MetFused.{met_closed_is}
@@ -23,6 +25,9 @@ add_choices-requires-clause-close c =
     let e = c.all-fillings.ensures ∙ c.in_default.ensures.found ∙ ap (λ b. fillings_at (reaction_in c.args.reaction.now) b (sides_of (take c.args.chosen.count c.keys_of-all.result))) c.requires.cached.meetings.kind in
     let d = c.filling-item.result in
     c.requires.close (take c.args.chosen.count c.keys_of-all.result) c.keys_of-all.ensures d.meeting (subst (λ (x : Filling). In x.meeting (meetings_of (reaction_in c.args.reaction.now) true (fields_of (take c.args.chosen.count c.keys_of-all.result))) × (x.parts ≡ filled_at (reaction_in c.args.reaction.now) true x.meeting (sides_of (take c.args.chosen.count c.keys_of-all.result)))) (sym c.filling-item.is) (is_filling (reaction_in c.args.reaction.now) true (take c.args.chosen.count c.keys_of-all.result) c.all-fillings.result.now c.loop-filling.filling-index d e c.loop-filling-test.true)).0
+
+pub add_choices-requires-clause-lines : goal.add_choices-requires-clause-lines
+add_choices-requires-clause-lines c = mapped lines_of_key c.args.nodes.now (chosen_nodes c.args.chosen) (take c.args.chosen.count c.keys_of-all.result) (take c.args.chosen.count c.lines_of-all_lines.result) c.keys_of-all.ensures c.lines_of-all_lines.ensures
 
 pub add_choices-requires-clause-filled : goal.add_choices-requires-clause-filled
 add_choices-requires-clause-filled c =

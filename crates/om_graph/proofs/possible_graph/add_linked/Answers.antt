@@ -1,6 +1,6 @@
 use Rattle.om_graph.specs.Reactions.{reaction_in}
 use Rattle.om_graph.proofs.KeyStep.{all_counted, can_close_over, close_large, closed_different, closed_several, closes}
-use Rattle.om_graph.proofs.possible_graph.add_keystones.Goals as goal
+use Rattle.om_graph.proofs.possible_graph.add_linked.Goals as goal
 
 pub add_closings-requires : goal.add_closings-requires
 add_closings-requires c = record { close = can_close_over (reaction_in c.args.reaction.now) c.args.nodes.now c.requires.can }
