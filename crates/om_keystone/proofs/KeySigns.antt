@@ -1,5 +1,5 @@
 -- The signs of vertices, by keys.
-use Rattle.std.proofs.Common.{◌≡◌, ℕ, ◌+◌, ◌%◌, ◌<◌, List, [], ◌∷◌, map, Bool, true, false, cond, Option, Some, None, ◌&&◌, ◌⊎◌, inl, inr, refl, ap, ap₂, sym, subst, ◌∙◌, arith}
+use Rattle.std.proofs.Common.{◌≡◌, ℕ, List, [], ◌∷◌, map, false, Option, Some, None, ◌&&◌, inl, inr, refl, ap, ap₂, sym, subst, ◌∙◌, arith}
 use Rattle.std.specs.List.{flat_map}
 use Rattle.om_ring.specs.Members.{In}
 use Rattle.om_legs.specs.Legs as sets

@@ -33,3 +33,4 @@ pub mod GraphAnswer
 pub mod NodeNames
 pub mod TermSigns
 pub mod WavesExist
+pub mod Whole

@@ -1,22 +1,15 @@
 -- What a vertex asks is settled by the keys that meet there, and branches stand before their node.
-use Rattle.std.proofs.Common.{◌≡◌, ℕ, ◌<◌, ◌≤◌, List, [], ◌∷◌, length, Bool, true, false, cond, ltb, eqb, ◌⊎◌, inl, inr, refl, ap, sym, subst, ◌∙◌, arith}
-use Rattle.std.specs.List.{sum_by}
-use Rattle.std.proofs.lemmas.List.Sums.{sum_by-cons}
+use Rattle.std.proofs.Common.{◌≡◌, ℕ, ◌<◌, ◌≤◌, List, length, Bool, true, false, cond, ltb, eqb, refl, ap, sym, ◌∙◌, arith}
 use Rattle.std.proofs.lemmas.Bool.Decides.{nat_tests}
-use Rattle.om_ring.specs.Members.{In}
 use Rattle.om_legs.specs.Legs as sets
 use Rattle.om_legs.specs.Splits.{IsSplit}
 use Rattle.om_legs.proofs.Bits.{bit, same_sets}
-use Rattle.om_legs.proofs.FirstPart.{part_filled, IsLegSet-part}
 use Rattle.om_legs.proofs.Operations.{holds-set_of_one}
-use Rattle.om_legs.proofs.ShareSums.{size_some}
-use Rattle.om_legs.proofs.SplitFacts.{sizes_of_parts}
 use Rattle.om_colour.specs.Partials.{joined}
 use Rattle.om_model.specs.Order.{numbers_lt}
 use Rattle.om_model.specs.Tree.{legs}
 use Rattle.om_model.specs.Tree.Tree.{leaf}
 use Rattle.om_model.specs.FermionLines.{Kinds}
-use Rattle.om_ring.proofs.Members.{in_map}
 use Rattle.om_model.proofs.LegSets.{has_leg_set, leg_set_of_leaf}
 use Rattle.om_graph.specs.declared.Graph.{Graph}
 use Rattle.om_graph.specs.declared.Key.{Key}

@@ -1,10 +1,11 @@
 -- Marks on the nodes that are kept, and the graph of these nodes alone.
-use Rattle.std.specs.Prelude.{◌≡◌, ℕ, ◌+◌, ◌≤◌, List, [], ◌∷◌, map, filter, length, replicate, Bool, true, false, cond, slice_index, slice_index_or, slice_set}
+use Rattle.std.specs.Prelude.{◌≡◌, ℕ, ◌+◌, ◌<◌, ◌≤◌, List, [], ◌∷◌, map, filter, length, replicate, Bool, true, false, cond, slice_index, slice_index_or, slice_set}
+use Rattle.om_ring.specs.Members.{In}
 use Rattle.om_graph.specs.Graph.{Numbered}
 use Rattle.om_graph.specs.declared.Graph.{Graph}
 use Rattle.om_graph.specs.declared.KeyTerm.{KeyTerm}
 use Rattle.om_graph.specs.declared.Term.{Term}
-use Rattle.om_graph.specs.Possible.{unsigned, unsigned_key}
+use Rattle.om_graph.specs.Possible.{nodes_at, unsigned, unsigned_key}
 
 abbrev pub is_marked : List Bool → ℕ → Bool
 is_marked marks n = slice_index_or marks n false
@@ -59,6 +60,11 @@ kept_terms marks numbers xs = map (renumbered numbers) (filter (λ (x : Numbered
 -- the signs of the terms that are kept
 unfoldable pub kept_signs : List Bool → List Term → List Bool
 kept_signs marks xs = map (λ (x : Term). x.minus) (filter (λ (x : Term). is_marked marks x.node) xs)
+
+-- the terms and keystone terms of a graph name nodes that are there
+pub record NamesItsNodes (g : Graph) : Type 0 where
+  pub terms : (x : Term) → In x g.terms → (x.node < length g.nodes) × ((n : ℕ) → In n (nodes_at x.branches) → n < length g.nodes)
+  pub keys : (y : KeyTerm) → In y g.keys → (n : ℕ) → In n (nodes_at y.branches) → n < length g.nodes
 
 -- the graph of the nodes with marks
 pub record IsMarkedPart (marks : List Bool) (old new : Graph) : Type 0 where

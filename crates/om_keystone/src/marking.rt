@@ -1,7 +1,8 @@
 //! Marks on the nodes that keystone terms reach by terms.
 ghost use Rattle.std.specs.Prelude.{◌≡◌, IfOk, map, slice_set, true};
 ghost use Rattle.om_graph.specs.Possible.{nodes_at, unsigned, unsigned_key};
-ghost use Rattle.om_keystone.specs.Pruning.{is_marked, mark_all, mark_terms, marks_of};
+ghost use Rattle.std.specs.List.{list_all};
+ghost use Rattle.om_keystone.specs.Pruning.{is_marked, mark_all, mark_keys, mark_terms, marks_of};
 
 use om_graph::{KeyTerm, Term};
 use om_legs::Branches;
@@ -20,11 +21,19 @@ pub(crate) fn marks_of(
     let Ok(mut marks) = vec![in alloc; false; count] else {
         return Err(NoMemory);
     };
-    for key in keys {
-        mark_all(&mut marks, nodes_of(&key.branches));
-    }
-    mark_terms(&mut marks, terms);
+    let marked = marks.as_mut_slice();
+    mark_keys(marked, keys);
+    mark_terms(marked, terms);
     Ok(marks)
+}
+
+/// Marks the nodes of keystone terms.
+fn mark_keys(marks: &mut [bool], keys: &[KeyTerm])
+    ensures { marks.new ≡ mark_keys marks.old (map unsigned_key keys.now) }
+{
+    for key in keys {
+        mark_all(marks, nodes_of(&key.branches));
+    }
 }
 
 /// The nodes that meet.
@@ -35,16 +44,16 @@ fn nodes_of(branches: &Branches) -> &[u32]
 }
 
 /// Marks nodes; a number past the last node marks nothing.
-fn mark_all(marks: &mut Vec<bool>, nodes: &[u32])
-    ensures { marks.new.items ≡ mark_all marks.old.items nodes.now }
+fn mark_all(marks: &mut [bool], nodes: &[u32])
+    ensures { marks.new ≡ mark_all marks.old nodes.now }
 {
     for node in nodes {
         mark(marks, *node);
     }
 }
 
-fn mark(marks: &mut Vec<bool>, node: u32)
-    ensures { marks.new.items ≡ slice_set marks.old.items node true }
+fn mark(marks: &mut [bool], node: u32)
+    ensures { marks.new ≡ slice_set marks.old node true }
 {
     let node = node as usize;
     if node < marks.len() {
@@ -54,12 +63,12 @@ fn mark(marks: &mut Vec<bool>, node: u32)
 
 /// Marks the branches of the nodes that are marked, by the last term first: a branch has a lesser number than its node, so
 /// all terms that could mark a node come before the node's own.
-fn mark_terms(marks: &mut Vec<bool>, terms: &[Term])
-    ensures { marks.new.items ≡ mark_terms marks.old.items (map unsigned terms.now) }
+fn mark_terms(marks: &mut [bool], terms: &[Term])
+    ensures { marks.new ≡ mark_terms marks.old (map unsigned terms.now) }
 {
     for i in (0..terms.len()).rev() {
         let term = terms[i];
-        if has_mark(marks.as_slice(), term.node) {
+        if has_mark(marks, term.node) {
             mark_all(marks, nodes_of(&term.branches));
         }
     }
@@ -71,4 +80,11 @@ pub(crate) fn has_mark(marks: &[bool], node: u32) -> bool
 {
     let node = node as usize;
     node < marks.len() && marks[node]
+}
+
+/// Whether each node is marked.
+pub(crate) fn has_all_marks(marks: &[bool]) -> bool
+    ensures { result ≡ list_all (λ mark. mark) marks.now }
+{
+    marks.iter().all(|mark| *mark)
 }

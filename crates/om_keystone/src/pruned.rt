@@ -7,9 +7,9 @@ ghost use Rattle.om_model.specs.Order.{Rising};
 ghost use Rattle.om_model.specs.WellFormed.{IsWellFormed};
 ghost use Rattle.om_model.specs.ProcessOf.{IsProcessOf};
 ghost use Rattle.om_keystone.specs.CanonicalGraph.{IsCanonicalOf};
-ghost use Rattle.om_keystone.specs.Pruning.{AreLow, IsReachedPart, kept_signs, kept_terms, marked_of, new_number, numbers_from, renumbered_key};
+ghost use Rattle.om_keystone.specs.Pruning.{AreLow, IsMarkedPart, IsReachedPart, NamesItsNodes, kept_signs, kept_terms, marked_of, new_number, numbers_from, renumbered_key};
 
-use crate::marking::{has_mark, marks_of};
+use crate::marking::{has_all_marks, has_mark, marks_of};
 use om_graph::{Graph, Key, KeyTerm, Term};
 use om_legs::Branches;
 use om_model::Process;
@@ -70,9 +70,28 @@ pub fn prune(
     Ok(Pruned { graph })
 }
 
-/// The part of a graph that its keystone terms reach.
+/// The part of a graph that its keystone terms reach: the graph itself where they reach all of it.
 fn reached_part(alloc: Global, graph: Graph) -> Result<Graph, NoMemory>
+    requires within { NamesItsNodes graph }
     ensures part { IfOk result (λ part. IsReachedPart graph part) }
+{
+    let marks = marks_of(
+        alloc,
+        graph.nodes.len(),
+        graph.terms.as_slice(),
+        graph.keys.as_slice(),
+    )?;
+    if has_all_marks(marks.as_slice()) {
+        return Ok(graph);
+    }
+    let part = marked_part(alloc, marks.as_slice(), graph)?;
+    Ok(part)
+}
+
+/// The graph of the nodes with marks.
+fn marked_part(alloc: Global, marks: &[bool], graph: Graph) -> Result<Graph, NoMemory>
+    requires same_length { length marks.now ≡ length graph.nodes }
+    ensures part { IfOk result (λ part. IsMarkedPart marks.now graph part) }
 {
     let Graph {
         nodes,
@@ -80,16 +99,10 @@ fn reached_part(alloc: Global, graph: Graph) -> Result<Graph, NoMemory>
         keys,
         flows,
     } = graph;
-    let marks = marks_of(alloc, nodes.len(), terms.as_slice(), keys.as_slice())?;
-    let numbers = numbers_of(alloc, marks.as_slice())?;
+    let numbers = numbers_of(alloc, marks)?;
     Ok(Graph {
-        nodes: marked_nodes(alloc, marks.as_slice(), nodes.as_slice())?,
-        terms: marked_terms(
-            alloc,
-            marks.as_slice(),
-            numbers.as_slice(),
-            terms.as_slice(),
-        )?,
+        nodes: marked_nodes(alloc, marks, nodes.as_slice())?,
+        terms: marked_terms(alloc, marks, numbers.as_slice(), terms.as_slice())?,
         keys: renumbered_keys(alloc, numbers.as_slice(), keys.as_slice())?,
         flows,
     })

@@ -8,18 +8,18 @@ use Rattle.om_keystone.proofs.marking.mark_terms.Goals as goal
 
 pub loop-i-init : goal.loop-i-init
 unfolding mark_terms
-loop-i-init c = ap (λ (xs : List Term). mark_terms c.args.marks.now.items (map unsigned xs)) (sym (drop-length c.args.terms.now))
+loop-i-init c = ap (λ (xs : List Term). mark_terms c.args.marks.now (map unsigned xs)) (sym (drop-length c.args.terms.now))
 
 pub loop-i-preserved-then-has_mark : goal.loop-i-preserved-then-has_mark
 loop-i-preserved-then-has_mark c =
     let k : c.loop-i.i ≡ (c.loop-i.i - 1) + 1 = omega arith in
-    let here : c.loop-i.marks.items ≡ mark_terms c.args.marks.now.items (map unsigned (drop ((c.loop-i.i - 1) + 1) c.args.terms.now)) =
-    c.loop-i.invariant ∙ ap (λ n. mark_terms c.args.marks.now.items (map unsigned (drop n c.args.terms.now))) k in
-    mark_terms_more c.args.marks.now.items c.loop-i.marks.items c.mark_all.new.marks.items c.args.terms.now c.index-terms-i.result (c.loop-i.i - 1) (omega arith) c.index-terms-i.is here (search rules) (search rules)
+    let here : c.loop-i.marks ≡ mark_terms c.args.marks.now (map unsigned (drop ((c.loop-i.i - 1) + 1) c.args.terms.now)) =
+    c.loop-i.invariant ∙ ap (λ n. mark_terms c.args.marks.now (map unsigned (drop n c.args.terms.now))) k in
+    mark_terms_more c.args.marks.now c.loop-i.marks c.mark_all.new.marks c.args.terms.now c.index-terms-i.result (c.loop-i.i - 1) (omega arith) c.index-terms-i.is here (search rules) (search rules)
 
 pub loop-i-preserved : goal.loop-i-preserved
 loop-i-preserved c =
     let k : c.loop-i.i ≡ (c.loop-i.i - 1) + 1 = omega arith in
-    let here : c.loop-i.marks.items ≡ mark_terms c.args.marks.now.items (map unsigned (drop ((c.loop-i.i - 1) + 1) c.args.terms.now)) =
-    c.loop-i.invariant ∙ ap (λ n. mark_terms c.args.marks.now.items (map unsigned (drop n c.args.terms.now))) k in
-    mark_terms_same c.args.marks.now.items c.loop-i.marks.items c.args.terms.now c.index-terms-i.result (c.loop-i.i - 1) (omega arith) c.index-terms-i.is here (search rules)
+    let here : c.loop-i.marks ≡ mark_terms c.args.marks.now (map unsigned (drop ((c.loop-i.i - 1) + 1) c.args.terms.now)) =
+    c.loop-i.invariant ∙ ap (λ n. mark_terms c.args.marks.now (map unsigned (drop n c.args.terms.now))) k in
+    mark_terms_same c.args.marks.now c.loop-i.marks c.args.terms.now c.index-terms-i.result (c.loop-i.i - 1) (omega arith) c.index-terms-i.is here (search rules)

@@ -4,4 +4,4 @@ use Rattle.om_graph.specs.Possible.{unsigned}
 use Rattle.om_keystone.proofs.marking.mark_terms.Given as goal
 
 abbrev pub invariant-loop-i : goal.invariant-loop-i
-invariant-loop-i l = l.marks.items ≡ mark_terms l.initial.marks.items (map unsigned (drop l.i l.terms))
+invariant-loop-i l = l.marks ≡ mark_terms l.initial.marks (map unsigned (drop l.i l.terms))

@@ -1,15 +1,34 @@
-use Rattle.std.proofs.Common.{◌≡◌, ◌∙◌, ap, sym, length, map}
+use Rattle.std.proofs.Common.{◌≡◌, ◌∙◌, ℕ, List, Bool, true, ap, ap₂, sym, subst, length, map}
+use Rattle.std.specs.List.{list_all}
+use Rattle.om_graph.specs.declared.Graph.{Graph}
+use Rattle.om_graph.specs.declared.KeyTerm.{KeyTerm}
+use Rattle.om_graph.specs.declared.Term.{Term}
 use Rattle.om_graph.specs.Possible.{unsigned, unsigned_key}
-use Rattle.om_keystone.proofs.Steps.{length-marks_of, low_numbers}
+use Rattle.om_keystone.specs.Pruning.{marks_of, IsMarkedPart}
+use Rattle.om_keystone.proofs.Steps.{length-marks_of}
+use Rattle.om_keystone.proofs.Whole.{whole_is_part}
 use Rattle.om_keystone.proofs.pruned.reached_part.Goals as goal
 
-pub marked_nodes-requires : goal.marked_nodes-requires
-marked_nodes-requires c =
-    let marks : length c.in_ok-marks.marks.items ≡ c.len.result = ap length c.in_ok-marks.ensures.marks ∙ length-marks_of c.len.result (map unsigned c.as_slice.result.now) (map unsigned_key c.as_slice-2.result.now) in
-    record { same_length = ap length c.as_slice-4.ensures.value ∙ marks ∙ c.len.ensures ∙ sym (ap length c.as_slice-5.ensures) }
+-- the marks of a graph, by what was read of it
+these : (g : Graph) (marks : List Bool) (n : ℕ) (terms : List Term) (keys : List KeyTerm) → marks ≡ marks_of n (map unsigned terms) (map unsigned_key keys) → n ≡ length g.nodes → terms ≡ g.terms → keys ≡ g.keys
+    → marks ≡ marks_of (length g.nodes) (map unsigned g.terms) (map unsigned_key g.keys)
+these g marks n terms keys e f h k = e ∙ ap (λ m. marks_of m (map unsigned terms) (map unsigned_key keys)) f ∙ ap₂ (λ xs ys. marks_of (length g.nodes) (map unsigned xs) (map unsigned_key ys)) h k
 
-pub marked_terms-requires : goal.marked_terms-requires
-marked_terms-requires c = record { low = low_numbers c.as_slice-7.result.now c.as_slice-3.result.now (c.as_slice-7.ensures.value ∙ c.in_ok-numbers.ensures.numbers) }
+pub returns-then-has_all_marks : goal.returns-then-has_all_marks
+returns-then-has_all_marks c =
+    let g = c.args.graph in
+    let e = these g c.as_slice-3.result.now c.len.result c.as_slice.result.now c.as_slice-2.result.now (c.as_slice-3.ensures.value ∙ c.in_ok-marks.ensures.marks) c.len.ensures c.as_slice.ensures c.as_slice-2.ensures in
+    let all : list_all (λ mark. mark) (marks_of (length g.nodes) (map unsigned g.terms) (map unsigned_key g.keys)) ≡ true = ap (list_all (λ mark. mark)) (sym e) ∙ sym c.has_all_marks.ensures ∙ c.if-has_all_marks.true in
+    record { part = whole_is_part (marks_of (length g.nodes) (map unsigned g.terms) (map unsigned_key g.keys)) g all (length-marks_of (length g.nodes) (map unsigned g.terms) (map unsigned_key g.keys)) c.requires.within }
 
-pub renumbered_keys-requires : goal.renumbered_keys-requires
-renumbered_keys-requires c = record { low = low_numbers c.as_slice-9.result.now c.as_slice-3.result.now (c.as_slice-9.ensures.value ∙ c.in_ok-numbers.ensures.numbers) }
+pub marked_part-requires : goal.marked_part-requires
+marked_part-requires c =
+    let g = c.args.graph in
+    let e = these g c.as_slice-4.result.now c.len.result c.as_slice.result.now c.as_slice-2.result.now (c.as_slice-4.ensures.value ∙ c.in_ok-marks.ensures.marks) c.len.ensures c.as_slice.ensures c.as_slice-2.ensures in
+    record { same_length = ap length e ∙ length-marks_of (length g.nodes) (map unsigned g.terms) (map unsigned_key g.keys) }
+
+pub returns : goal.returns
+returns c =
+    let g = c.args.graph in
+    let e = these g c.as_slice-4.result.now c.len.result c.as_slice.result.now c.as_slice-2.result.now (c.as_slice-4.ensures.value ∙ c.in_ok-marks.ensures.marks) c.len.ensures c.as_slice.ensures c.as_slice-2.ensures in
+    record { part = subst (λ m. IsMarkedPart m g c.in_ok-part.part) e c.in_ok-part.ensures.part }

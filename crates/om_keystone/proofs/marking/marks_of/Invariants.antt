@@ -1,7 +1,0 @@
-use Rattle.std.proofs.Common.{◌≡◌, drop, map, replicate, false}
-use Rattle.om_keystone.specs.Pruning.{mark_keys}
-use Rattle.om_graph.specs.Possible.{unsigned_key}
-use Rattle.om_keystone.proofs.marking.marks_of.Given as goal
-
-abbrev pub invariant-loop-key : goal.invariant-loop-key
-invariant-loop-key l = mark_keys (replicate l.fn.count false) (map unsigned_key l.keys) ≡ mark_keys l.marks.items (map unsigned_key (drop l.key-index l.keys))
