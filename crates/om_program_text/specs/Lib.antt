@@ -1,3 +1,4 @@
 pub mod Parts
 pub mod ProgramText
+pub mod Spelt
 pub mod Words

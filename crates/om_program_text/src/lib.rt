@@ -8,6 +8,7 @@ mod instr_lines;
 mod model_lines;
 mod pieces;
 mod process_lines;
+mod spellings;
 mod writer;
 
 pub use writer::write_code;

@@ -1,11 +1,17 @@
 //! Pieces and numbers that are put into bytes at a place.
-ghost use Rattle.std.specs.Prelude.{◌≡◌, ◌+◌, ◌<◌, ◌≤◌, ◌++◌, length, take, decimal};
-ghost use Rattle.om_ring.specs.declared.line.TheConstants.{DECIMAL_BYTES};
+ghost use Rattle.std.specs.Prelude.{◌≡◌, ◌+◌, ◌<◌, ◌≤◌, ◌++◌, ◌∷◌, length, take, decimal};
+ghost use Rattle.om_program_text.specs.declared.pieces.TheConstants.{SPACED_BYTES};
+ghost use Rattle.om_program_text.specs.Spelt.{AreSpelt};
 
+use crate::spellings::Spelling;
 use itoa::Buffer;
 use om_ring::DECIMAL_BYTES;
 
+/// The most bytes of a number behind a space.
+pub(crate) const SPACED_BYTES: usize = 1 + DECIMAL_BYTES;
+
 /// Puts a piece in, and answers the place behind it.
+#[inline(always)]
 pub(crate) fn put(to: &mut [u8], at: usize, piece: &[u8]) -> usize
     requires { at + length piece.now ≤ length to.old }
     ensures bytes { take result to.new ≡ take at to.old ++ piece.now }
@@ -17,45 +23,42 @@ pub(crate) fn put(to: &mut [u8], at: usize, piece: &[u8]) -> usize
     end
 }
 
-/// Puts the decimal of a number in, of which most are short, and answers the place behind it.
-pub(crate) fn put_number(to: &mut [u8], at: usize, k: u64) -> usize
-    requires { at + DECIMAL_BYTES ≤ length to.old }
-    ensures bytes { take result to.new ≡ take at to.old ++ decimal k }
-    ensures short { result ≤ at + DECIMAL_BYTES }
+/// Puts the decimal of a number in, behind a space, and answers the place behind it. Most numbers are among the spelt ones.
+#[inline(always)]
+pub(crate) fn put_number(to: &mut [u8], at: usize, spelt: &[Spelling], k: u64) -> usize
+    requires room { at + SPACED_BYTES ≤ length to.old }
+    requires spelt { AreSpelt spelt.now }
+    ensures bytes { take result to.new ≡ take at to.old ++ 32 ∷ decimal k }
+    ensures short { result ≤ at + SPACED_BYTES }
     ensures same { length to.new ≡ length to.old }
 {
-    if k < 10 {
-        return put(to, at, &[digit(k)]);
+    if k < spelt.len() as u64 {
+        put_spelt(to, at, &spelt[k as usize])
+    } else {
+        put_long(to, at, k)
     }
-    if k < 100 {
-        return put(to, at, &[digit(k / 10), digit(k % 10)]);
-    }
-    if k < 1000 {
-        return put(
-            to,
-            at,
-            &[digit(k / 10 / 10), digit(k / 10 % 10), digit(k % 10)],
-        );
-    }
-    if k < 10_000 {
-        return put(
-            to,
-            at,
-            &[
-                digit(k / 10 / 10 / 10),
-                digit(k / 10 / 10 % 10),
-                digit(k / 10 % 10),
-                digit(k % 10),
-            ],
-        );
-    }
-    let mut buffer = Buffer::new();
-    put(to, at, buffer.format(k).as_bytes())
 }
 
-fn digit(k: u64) -> u8
-    requires { k < 10 }
-    ensures { result ≡ 48 + k }
+// Puts all bytes of a spelt number in, and answers the place behind those that it needs.
+#[inline(always)]
+fn put_spelt(to: &mut [u8], at: usize, number: &Spelling) -> usize
+    requires room { at + SPACED_BYTES ≤ length to.old }
+    requires some { number.now.len ≤ 8 }
+    ensures bytes { take result to.new ≡ take at to.old ++ take number.now.len number.now.bytes }
+    ensures short { result ≤ at + SPACED_BYTES }
+    ensures same { length to.new ≡ length to.old }
 {
-    b'0' + k as u8
+    put(to, at, &number.bytes);
+    at + number.len as usize
+}
+
+fn put_long(to: &mut [u8], at: usize, k: u64) -> usize
+    requires { at + SPACED_BYTES ≤ length to.old }
+    ensures bytes { take result to.new ≡ take at to.old ++ 32 ∷ decimal k }
+    ensures short { result ≤ at + SPACED_BYTES }
+    ensures same { length to.new ≡ length to.old }
+{
+    let at = put(to, at, b" ");
+    let mut buffer = Buffer::new();
+    put(to, at, buffer.format(k).as_bytes())
 }

@@ -15,6 +15,7 @@ use crate::instr_lines::write_each;
 use crate::model_lines::{ParticleLines, VertexLines};
 use crate::pieces::put;
 use crate::process_lines::{DenLines, FlowLines, LegLines};
+use crate::spellings::{BLANK, MOST_SPELT, spell};
 use om_code::{Code, Instr};
 use om_io::{Failed, ROOM_BYTES, Sink, flush, make_room, write_rows};
 use om_ring::{LINE_BYTES, Line};
@@ -34,7 +35,14 @@ pub fn write_code<W: Sink>(code: &Code, to: &mut W) -> Result<(), Failed>
     write_lines(code, to, &mut line)?;
     flush(to, &mut line)?;
     let mut block = Block::new();
-    write_instrs(code.version, code.instrs.as_slice(), to, &mut block)?;
+    let numbers = numbers_in(code);
+    write_instrs(
+        code.version,
+        code.instrs.as_slice(),
+        numbers,
+        to,
+        &mut block,
+    )?;
     send_block(to, &mut block)
 }
 
@@ -68,16 +76,31 @@ fn write_process<W: Sink>(code: &Code, to: &mut W, line: &mut Line) -> Result<()
     write_rows(&DenLines { particles }, &code.dens, to, line)
 }
 
-// Writes the lines of the instructions and the last one through a block.
+// How many numbers the instructions name, counted from 0, but for those of vertices.
+fn numbers_in(code: &Code) -> usize {
+    let slots = code.slots as usize;
+    let flows = code.flows.len();
+    if slots < flows { flows } else { slots }
+}
+
+// Writes the lines of the instructions and the last one through a block. The first numbers are spelt once for all lines.
 fn write_instrs<W: Sink>(
     version: u8,
     instrs: &[Instr],
+    numbers: usize,
     to: &mut W,
     block: &mut Block,
 ) -> Result<(), Failed>
     ensures { Writes (outlet (W.written to.old) (W.faults to.old) block.old) (outlet (W.written to.new) (W.faults to.new) block.new) (all_of (instr_parts version instrs.now)) result }
 {
-    write_each(version, instrs, to, block)?;
+    let count = if numbers < MOST_SPELT {
+        numbers + 1
+    } else {
+        MOST_SPELT
+    };
+    let mut spelt = [BLANK; MOST_SPELT];
+    spell(&mut spelt, count);
+    write_each(version, instrs, &spelt[..count], to, block)?;
     write_end(to, block)
 }
 

@@ -5,5 +5,5 @@ use Rattle.om_program_text.proofs.instr_lines.put_term.Goals as goal
 
 pub returns-clause-bytes : goal.returns-clause-bytes
 returns-clause-bytes c =
-    let e = term_line (take c.args.at c.args.to.now) (place_word c.args.made) (sign_word c.args.minus) (place_word c.args.vertex) (decimal c.args.choice) (branch_words c.args.branches.now) in
+    let e = term_line (take c.args.at c.args.to.now) c.args.word.now (place_word c.args.made) (sign_word c.args.minus) (place_word c.args.vertex) (decimal c.args.choice) (branch_words c.args.branches.now) in
     cc
