@@ -15,6 +15,8 @@ pub mod Planned
 pub mod LastUses
 pub mod PlanMade
 pub mod PlanLoop
+pub mod PlanFronts
+pub mod PlansMade
 pub mod NodeCode
 pub mod GraphCode
 pub mod Search

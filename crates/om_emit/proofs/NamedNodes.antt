@@ -1,7 +1,7 @@
 -- The code of a graph names only numbers of its nodes.
-use Rattle.std.proofs.Common.{◌≡◌, ℕ, suc, ◌+◌, ◌<◌, ◌≤◌, List, [], ◌∷◌, ◌++◌, inl, inr, ⊎_elim, length, map, Bool, true, false, cond, eqb, refl, ap, ap₂, arith}
+use Rattle.std.proofs.Common.{◌≡◌, ℕ, suc, ◌+◌, ◌<◌, ◌≤◌, List, [], ◌∷◌, ◌++◌, inl, inr, ⊎_elim, length, map, Bool, true, false, cond, eqb, refl, ap, ap₂, sym, subst, arith}
 use Rattle.std.specs.List.{AllByRecursion, filter, concat}
-use Rattle.std.proofs.lemmas.Bool.{eqb-true}
+use Rattle.std.proofs.lemmas.Bool.{cases_eq, eqb-true}
 use Rattle.om_legs.specs.Legs.{least}
 use Rattle.om_ring.specs.Members.{In}
 use Rattle.om_model.specs.declared.model.Model.{Model}
@@ -15,8 +15,8 @@ use Rattle.om_code.specs.Spans.{is_named}
 use Rattle.om_code.specs.Slots.{nodes_of}
 use Rattle.om_code.specs.Ops.{registers_of, lines_of_code, Op, load, fuse, prop, key, op_of, named_in, placed_op}
 use Rattle.om_keystone.specs.Built.{is_inner, terms_at, IsBelow, NodesAreBuilt, IsBuilt}
-use Rattle.om_emit.specs.GraphCode.{fuse_op, key_op, node_ops, nodes_ops, den_place, register_ops, register_lines}
-use Rattle.om_ring.proofs.Members.{in_from_member, member_from_in, in_either, in_left, in_right}
+use Rattle.om_emit.specs.GraphCode.{fuse_op, key_op, node_ops, nodes_ops, den_place, register_ops}
+use Rattle.om_ring.proofs.Members.{member_from_in, in_either, in_left, in_right}
 
 -- each register that is named is below a number
 abbrev pub AllBelow : ℕ → List Op → Type 0
@@ -26,7 +26,7 @@ all_weaker : (m n : ℕ) (rs : List ℕ) → m ≤ n → AllByRecursion (λ r. r
 all_weaker m n [] l h = tt
 all_weaker m n (r ∷ rs) l h = (let a = h.0 in omega arith, all_weaker m n rs l h.1)
 
-below_weaker : (m n : ℕ) (ops : List Op) → m ≤ n → AllBelow m ops → AllBelow n ops
+pub below_weaker : (m n : ℕ) (ops : List Op) → m ≤ n → AllBelow m ops → AllBelow n ops
 below_weaker m n [] l h = tt
 below_weaker m n (x ∷ xs) l h = (all_weaker m n (named_in x) l h.0, below_weaker m n xs l h.1)
 
@@ -62,7 +62,7 @@ module _ (den : Key → ℕ) (terms : List Term) where
       by true h = below_append (suc k) (map fuse_op (terms_at terms k)) (prop k (den node) ∷ []) (terms_below k terms (h refl).1) ((omega arith, tt), tt)
       by false h = ((omega arith, tt), tt)
 
-  nodes_below : (k : ℕ) (nodes : List Key) → NodesAreBuilt terms k nodes → AllBelow (k + length nodes) (nodes_ops den terms k nodes)
+  pub nodes_below : (k : ℕ) (nodes : List Key) → NodesAreBuilt terms k nodes → AllBelow (k + length nodes) (nodes_ops den terms k nodes)
   unfolding nodes_ops
   nodes_below k [] h = tt
   nodes_below k (node ∷ nodes) h =
@@ -70,7 +70,38 @@ module _ (den : Key → ℕ) (terms : List Term) where
       (below_weaker (suc k) (k + suc (length nodes)) (node_ops den terms k node) (omega arith) (node_below k node h.0))
       (below_weaker (suc k + length nodes) (k + suc (length nodes)) (nodes_ops den terms (suc k) nodes) (omega arith) (nodes_below (suc k) nodes h.1))
 
-keys_below : (n : ℕ) (ts : List KeyTerm) → AllByRecursion (λ t. AllByRecursion (λ b. b < n) (nodes_of t.branches)) ts → AllBelow n (map key_op ts)
+-- what the instructions of some nodes name, others name with them
+named_left : (r : ℕ) (xs ys : List Op) → In r (concat (map named_in xs)) → In r (concat (map named_in (xs ++ ys)))
+named_left r [] ys i = absurd i
+named_left r (x ∷ xs) ys i = ⊎_elim
+    (λ j. in_left r (named_in x) (concat (map named_in (xs ++ ys))) j)
+    (λ j. in_right r (named_in x) (concat (map named_in (xs ++ ys))) (named_left r xs ys j))
+    (in_either r (named_in x) (concat (map named_in xs)) i)
+
+named_right : (r : ℕ) (xs ys : List Op) → In r (concat (map named_in ys)) → In r (concat (map named_in (xs ++ ys)))
+named_right r [] ys i = i
+named_right r (x ∷ xs) ys i = in_right r (named_in x) (concat (map named_in (xs ++ ys))) (named_right r xs ys i)
+
+module _ (den : Key → ℕ) (terms : List Term) where
+  node_named : (k : ℕ) (node : Key) → In k (concat (map named_in (node_ops den terms k node)))
+  unfolding node_ops
+  node_named k node = by (is_inner node)
+    where
+      by : (b : Bool) → In k (concat (map named_in (cond b (map fuse_op (terms_at terms k) ++ prop k (den node) ∷ []) (load k (least node.legs) ∷ []))))
+      by true = named_right k (map fuse_op (terms_at terms k)) (prop k (den node) ∷ []) (inl refl)
+      by false = inl refl
+
+  -- the instructions of nodes name each of them
+  pub all_named : (k r : ℕ) (nodes : List Key) → k ≤ r → r < k + length nodes → In r (concat (map named_in (nodes_ops den terms k nodes)))
+  unfolding nodes_ops
+  all_named k r [] a b = absurd (omega (arith, a, b))
+  all_named k r (node ∷ nodes) a b = ⊎_elim
+      (λ (e : r ≡ k). let P : ℕ → Type 0 = λ j. In j (concat (map named_in (node_ops den terms k node ++ nodes_ops den terms (suc k) nodes))) in
+      subst P (sym e) (named_left k (node_ops den terms k node) (nodes_ops den terms (suc k) nodes) (node_named k node)))
+      (λ (n : r ≡ k → ⊥). named_right r (node_ops den terms k node) (nodes_ops den terms (suc k) nodes) (all_named (suc k) r nodes (omega (arith, a, n)) (omega (arith, b))))
+      (cases_eq r k)
+
+pub keys_below : (n : ℕ) (ts : List KeyTerm) → AllByRecursion (λ t. AllByRecursion (λ b. b < n) (nodes_of t.branches)) ts → AllBelow n (map key_op ts)
 keys_below n [] h = tt
 keys_below n (t ∷ ts) h = (h.0, keys_below n ts h.1)
 
@@ -81,10 +112,6 @@ module _ (model : Model) (n : ℕ) (graph : Graph) (built : IsBuilt graph) where
       below_append (length graph.nodes) (nodes_ops (den_place model n graph) graph.terms 0 graph.nodes) (map key_op graph.keys)
       (below_weaker (0 + length graph.nodes) (length graph.nodes) (nodes_ops (den_place model n graph) graph.terms 0 graph.nodes) (omega arith) (nodes_below (den_place model n graph) graph.terms 0 graph.nodes built.nodes))
       (keys_below (length graph.nodes) graph.keys built.keys)
-
-  pub named_below : (r : ℕ) → is_named (register_lines model n graph) r ≡ true → r < length graph.nodes
-  unfolding is_named
-  named_below r h = below_named (length graph.nodes) r (register_ops model n graph) graph_below (in_from_member (concat (register_lines model n graph)) r h)
 
 -- plans that agree on what is named
 same_names : (f g : ℕ → ℕ) (rs : List ℕ) → ((r : ℕ) → In r rs → f r ≡ g r) → map f rs ≡ map g rs

@@ -1,7 +1,7 @@
 -- Instructions that are replaced one after the other.
-use Rattle.std.proofs.Common.{◌≡◌, ℕ, zero, suc, ◌+◌, ◌<◌, List, [], ◌∷◌, ◌++◌, length, map, take, drop, get_or, slice_get, slice_set, Some, sym, ◌∙◌, ap, subst, arith}
+use Rattle.std.proofs.Common.{◌≡◌, ℕ, zero, suc, ◌+◌, ◌<◌, List, [], ◌∷◌, ◌++◌, length, map, take, drop, get_or, slice_get, slice_set, Some, sym, ◌∙◌, ap, ap₂, subst, arith, append_assoc}
 use Rattle.std.specs.List.{AllByRecursion}
-use Rattle.std.proofs.lemmas.List.{map-set, length-map}
+use Rattle.std.proofs.lemmas.List.{map-set, map-append, length-map, take_more}
 use Rattle.std.proofs.lemmas.Option.{get_or_from_slice_get}
 use Rattle.std.proofs.Math.ListN.{get_or-map}
 use Rattle.om_graph.proofs.AddedTerms.{set_next}
@@ -26,3 +26,19 @@ pub holds_more : {A : Type 0} (P : A → Type 0) (now new : List A) (k : ℕ) (x
 holds_more P now new k x l h p set =
     let n : suc k ≡ k + 1 = omega arith in
     subst (λ j. AllByRecursion P (take j new)) n (subst (λ ys. AllByRecursion P (take (suc k) ys)) (sym set) (holds_at P now k x l h p))
+
+-- one more operation behind others
+pub pushed_ops : {A : Type 0} (f : A → Op) (keys : List A) (old now new : List Instr) (k : ℕ) (key : A) (put : Instr) → k < length keys → key ≡ get_or keys k key → op_of put ≡ f key → new ≡ now ++ put ∷ [] → map op_of now ≡ map op_of old ++ map f (take k keys)
+    → map op_of new ≡ map op_of old ++ map f (take (k + 1) keys)
+pushed_ops f keys old now new k key put l at same e h =
+    let next : take (k + 1) keys ≡ take k keys ++ key ∷ [] = take_more keys k key l ∙ ap (λ x. take k keys ++ x ∷ []) (sym at) in
+    ap (map op_of) e ∙ map-append op_of now (put ∷ []) ∙ ap₂ (λ xs x. xs ++ x ∷ []) h same
+    ∙ append_assoc (map op_of old) (map f (take k keys)) (f key ∷ [])
+    ∙ ap (λ xs. map op_of old ++ xs) (sym (ap (map f) next ∙ map-append f (take k keys) (key ∷ [])))
+
+holds_behind : {A : Type 0} (P : A → Type 0) (xs : List A) (x : A) → AllByRecursion P xs → P x → AllByRecursion P (xs ++ x ∷ [])
+holds_behind P [] x h p = (p, tt)
+holds_behind P (y ∷ xs) x h p = (h.0, holds_behind P xs x h.1 p)
+
+pub holds_pushed : {A : Type 0} (P : A → Type 0) (now new : List A) (x : A) → AllByRecursion P now → P x → new ≡ now ++ x ∷ [] → AllByRecursion P new
+holds_pushed P now new x h p e = subst (AllByRecursion P) (sym e) (holds_behind P now x h p)

@@ -11,7 +11,7 @@ use Rattle.std.proofs.lemmas.Map.Steps.{le-length_from_below, length-le_from_dis
 use Rattle.om_ring.specs.Members.{In, Different}
 use Rattle.om_code.specs.Spans.{span_holds, width}
 use Rattle.om_code.specs.SlotPlans.{Given, taken_at, give, give_each, given_before, slot_in, slot_or_0, first_fit, slots_used}
-use Rattle.om_emit.specs.Planning.{Planning, give_slot, give_slots, freed, free_slot, free_slots, planned, last_uses}
+use Rattle.om_emit.specs.Planning.{Planning, no_slots, give_slot, give_slots, freed, free_slot, free_slots, planned, last_uses}
 use Rattle.om_ring.proofs.Members.{in_map, in_mapped, in_filter, in_from_member, member_from_in, distinct, few_below}
 use Rattle.om_code.proofs.SpanFacts.{Before, After, line_after, after_line, line_before, after_shrinks, before_grows, span_from, parts_of_span, after_named}
 use Rattle.om_code.proofs.FirstFit.{AreGiven, give_each-given, given_before-given, has_slot, first_fit-narrow, first_fit-is, slot_of}
@@ -160,10 +160,6 @@ module _ (lines : List (List ℕ)) (n i : ℕ) (l : i < length lines) (all : Lis
       let q = free_slots (last_uses n lines (length lines)) i p (get_or lines i []) in
       record { size = v.size; same = v.same; free = same_free q.free q.count (IsHeld lines i u.after given) (λ x. In x (taken_at lines (i + 1) given)) (next_from_held u.after u.new) (held_from_next u.after) v.free; used = v.used; below = v.below }
 
--- nothing given yet
-abbrev pub nothing : ℕ → Planning
-nothing n = record { slots = replicate n None; free = []; count = 0 }
-
 get_or-same : (n r : ℕ) (o : Option ℕ) → get_or (replicate n o) r o ≡ o
 get_or-same zero r o = refl
 get_or-same (suc n) zero o = refl
@@ -173,7 +169,7 @@ module _ (lines : List (List ℕ)) (n : ℕ) (small : (r : ℕ) → In r (concat
   line_named : (i r : ℕ) → i < length lines → In r (get_or lines i []) → In r (concat lines)
   line_named i r l h = after_named lines i r (line_after lines i r l (inl h))
 
-  pub planned-is : (m : ℕ) → m ≤ length lines → IsPlanned lines n (given_before lines m) (λ q. In q (taken_at lines m (given_before lines m))) (planned (last_uses n lines (length lines)) lines (nothing n) m)
+  pub planned-is : (m : ℕ) → m ≤ length lines → IsPlanned lines n (given_before lines m) (λ q. In q (taken_at lines m (given_before lines m))) (planned (last_uses n lines (length lines)) lines (no_slots n) m)
   unfolding planned given_before taken_at slot_in
   planned-is zero l = record {
     size = length-replicate n None;
@@ -185,7 +181,7 @@ module _ (lines : List (List ℕ)) (n : ℕ) (small : (r : ℕ) → In r (concat
   planned-is (suc m) l =
       let at : m < length lines = omega arith in
       let line = get_or lines m [] in
-      let p = planned (last_uses n lines (length lines)) lines (nothing n) m in
+      let p = planned (last_uses n lines (length lines)) lines (no_slots n) m in
       let old = planned-is m (omega arith) in
       let done = give_each-given lines m [] (given_before lines m) line at (given_before-given lines m (omega arith)) (λ r j. j) in
       let given = give_each lines m (given_before lines m) line in
@@ -203,21 +199,16 @@ module _ (lines : List (List ℕ)) (n : ℕ) (small : (r : ℕ) → In r (concat
       (cases_lt (length lines) k)
 
   -- no more numbers than registers were used
-  pub count_small : (m : ℕ) → m ≤ length lines → (planned (last_uses n lines (length lines)) lines (nothing n) m).count ≤ n
+  pub count_small : (m : ℕ) → m ≤ length lines → (planned (last_uses n lines (length lines)) lines (no_slots n) m).count ≤ n
   count_small m l =
       let given = given_before lines m in
       let a = given_before-given lines m l in
       let w = planned-is m l in
-      let few : (planned (last_uses n lines (length lines)) lines (nothing n) m).count ≤ length (map (λ g. g.1) given) =
-      le-length_from_below (map (λ g. g.1) given) (planned (last_uses n lines (length lines)) lines (nothing n) m).count (λ q b. member_from_in (map (λ g. g.1) given) q (w.used q b)) in
+      let few : (planned (last_uses n lines (length lines)) lines (no_slots n) m).count ≤ length (map (λ g. g.1) given) =
+      le-length_from_below (map (λ g. g.1) given) (planned (last_uses n lines (length lines)) lines (no_slots n) m).count (λ q b. member_from_in (map (λ g. g.1) given) q (w.used q b)) in
       let named : (q : ℕ) → In q (keys_of given) → q < n = λ q j. small q (⊎_elim (λ b. before_named m q b) (λ z. absurd z) (a.from q j)) in
       let many : length (keys_of given) ≤ n = length-le_from_distinct_below (keys_of given) n (distinct (keys_of given) a.apart) (λ q j. named q (in_from_member (keys_of given) q j)) in
       omega (arith, length-map given (λ g. g.0), length-map given (λ g. g.1))
-
-  -- in the end it is the first-fit plan, and as many numbers as the width were used
-  pub slot-is : (r : ℕ) → r < n → slot_or_0 (get_or (planned (last_uses n lines (length lines)) lines (nothing n) (length lines)).slots r None) ≡ first_fit lines r
-  unfolding first_fit
-  slot-is r s = ap slot_or_0 ((planned-is (length lines) (omega arith)).same r s)
 
   used_few : (count : ℕ) → ((g : ℕ × ℕ) → In g (given_before lines (length lines)) → g.1 < count) → slots_used lines (first_fit lines) ≤ count
   unfolding slots_used
@@ -226,15 +217,22 @@ module _ (lines : List (List ℕ)) (n : ℕ) (small : (r : ℕ) → In r (concat
       let s = slot_of lines u.0 u.1 in
       subst (λ x. x < count) (sym (u.2 ∙ first_fit-is lines u.0 u.1)) (below (u.0, s.slot) s.is_in))
 
-  pub count-is : (planned (last_uses n lines (length lines)) lines (nothing n) (length lines)).count ≡ width lines
-  count-is =
-      let w = planned-is (length lines) (omega arith) in
-      let a = given_before-given lines (length lines) (omega arith) in
-      let count = (planned (last_uses n lines (length lines)) lines (nothing n) (length lines)).count in
-      let narrow = first_fit-narrow lines in
-      let up : count ≤ width lines = ⊎_elim
-      (λ (b : width lines < count). let u = in_mapped (λ g. g.1) (width lines) (given_before lines (length lines)) (w.used (width lines) b) in let c : u.0.1 < width lines = a.small u.0 u.1 in let e : width lines ≡ u.0.1 = u.2 in absurd (omega arith))
-      (λ (b : count ≤ width lines). b)
-      (cases_lt (width lines) count) in
-      let down : width lines ≤ count = subst (λ x. x ≤ count) narrow.used (used_few count w.below) in
-      le_antisymm up down
+  -- once all registers have their slots it is the first-fit plan, and as many numbers as the width were used
+  module _ (m : ℕ) (within : m ≤ length lines) (all_given : given_before lines m ≡ given_before lines (length lines)) where
+    pub slot-is : (r : ℕ) → r < n → slot_or_0 (get_or (planned (last_uses n lines (length lines)) lines (no_slots n) m).slots r None) ≡ first_fit lines r
+    unfolding first_fit
+    slot-is r s = ap slot_or_0 ((planned-is m within).same r s ∙ ap (λ given. slot_in given r) all_given)
+
+    pub count-is : (planned (last_uses n lines (length lines)) lines (no_slots n) m).count ≡ width lines
+    count-is =
+        let p = planned (last_uses n lines (length lines)) lines (no_slots n) m in
+        let P : Given → Type 0 = λ given. IsPlanned lines n given (λ q. In q (taken_at lines m given)) p in
+        let w = subst P all_given (planned-is m within) in
+        let a = given_before-given lines (length lines) (omega arith) in
+        let narrow = first_fit-narrow lines in
+        let up : p.count ≤ width lines = ⊎_elim
+        (λ (b : width lines < p.count). let u = in_mapped (λ g. g.1) (width lines) (given_before lines (length lines)) (w.used (width lines) b) in let c : u.0.1 < width lines = a.small u.0 u.1 in let e : width lines ≡ u.0.1 = u.2 in absurd (omega arith))
+        (λ (b : p.count ≤ width lines). b)
+        (cases_lt (width lines) p.count) in
+        let down : width lines ≤ p.count = subst (λ x. x ≤ p.count) narrow.used (used_few p.count w.below) in
+        le_antisymm up down

@@ -39,6 +39,10 @@ fuse_op t = fuse t.node t.minus t.vertex t.choice (nodes_of t.branches)
 abbrev pub key_op : KeyTerm → Op
 key_op t = key t.flow t.minus t.vertex t.choice (nodes_of t.branches)
 
+-- the registers that keystone terms name
+abbrev pub key_lines : List KeyTerm → List (List ℕ)
+key_lines keys = map (λ t. nodes_of t.branches) keys
+
 module _ (den : Key → ℕ) (terms : List Term) where
   -- the load of a leg; of an inner node its terms, and then its propagator
   unfoldable pub node_ops : ℕ → Key → List Op

@@ -11,6 +11,10 @@ pub record Planning : Type 0 where
   pub free : List ℕ
   pub count : ℕ
 
+-- no register has a slot
+abbrev pub no_slots : ℕ → Planning
+no_slots registers = record { slots = replicate registers None; free = []; count = 0 }
+
 -- a planner without where it lies in memory
 abbrev pub planning_of : Planner → Planning
 planning_of p = record { slots = p.slots.items; free = p.free.keys; count = p.count }

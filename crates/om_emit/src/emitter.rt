@@ -11,9 +11,9 @@ ghost use Rattle.om_emit.specs.GraphCode.{IsCodeOf};
 ghost use Rattle.om_emit.specs.Laws.{HasFewestSlots};
 
 use crate::dens::{edges_above, listed};
-use crate::placed::place_all;
-use crate::registers::register_code;
-use crate::slot_plan::first_fit;
+use crate::placed::{place_all, push_keys};
+use crate::registers::node_code;
+use crate::slot_plan::plan_with_keys;
 use om_code::{Code, Verified};
 use om_graph::Graph;
 use om_keystone::Pruned;
@@ -67,10 +67,12 @@ fn code_of(alloc: Global, model: &Model, process: &Process, graph: &Graph) -> Re
     let edges = edges_above(alloc, particles, n, nodes)?;
     let dens = listed(alloc, &edges)?;
     let in_order = dens.as_slice();
-    let mut instrs = register_code(alloc, particles, n, in_order, graph)?;
+    let mut instrs = node_code(alloc, particles, n, in_order, graph)?;
     let named = instrs.as_slice();
-    let plan = first_fit(alloc, named, nodes.len() as u32)?;
+    let keys = graph.keys.as_slice();
+    let plan = plan_with_keys(alloc, named, keys, nodes.len() as u32)?;
     place_all(&mut instrs, &plan);
+    push_keys(&mut instrs, keys, &plan)?;
     let slots = plan.count();
     Ok(Code {
         version: 2,

@@ -1,21 +1,21 @@
-//! The instructions of a graph, where a register is the number of its node.
+//! The instructions of the nodes of a graph, where a register is the number of its node.
 ghost use Rattle.std.specs.Prelude.{◌≡◌, ◌++◌, ◌^◌, ◌<◌, ◌≤◌, map, drop, length, IfOk, OnOk, All};
 ghost use Rattle.std.specs.List.Sorted.{IsStrictlySortedBy};
 ghost use Rattle.om_model.specs.Model.{anti_field as anti_field_of};
 ghost use Rattle.om_code.specs.Ops.{op_of};
 ghost use Rattle.om_code.specs.DenOrder.{den_order};
-ghost use Rattle.om_emit.specs.GraphCode.{den_of as den_of_node, place_of, fuse_op, key_op};
+ghost use Rattle.om_emit.specs.GraphCode.{den_of as den_of_node, place_of, fuse_op};
 ghost use Rattle.om_emit.specs.GraphWalk.{front, behind, step_ops, step_rest, walk_ops, HasDen};
 
 use crate::dens::{den_of, is_inner, place};
 use om_code::{Den, Instr};
-use om_graph::{Graph, Key, KeyTerm, Term};
+use om_graph::{Graph, Key, Term};
 use om_model::Particle;
 use om_ring::{List, NoMemory};
 use std::alloc::Global;
 
-/// The loads of the legs, the terms of each inner node with its propagator behind them, and the keystones.
-pub(crate) fn register_code(
+/// The loads of the legs, and the terms of each inner node with its propagator behind them.
+pub(crate) fn node_code(
     alloc: Global,
     particles: &[Particle],
     n: u8,
@@ -29,7 +29,7 @@ pub(crate) fn register_code(
     requires ordered { IsStrictlySortedBy den_order dens.now }
     requires there { All (HasDen (anti_field_of particles.now) n dens.now) graph.now.nodes }
     ensures { IfOk result (λ instrs. map op_of instrs
-        ≡ walk_ops (λ node. place_of dens.now (den_of_node (anti_field_of particles.now) n node)) 0 graph.now.nodes graph.now.terms ++ map key_op graph.now.keys) }
+        ≡ walk_ops (λ node. place_of dens.now (den_of_node (anti_field_of particles.now) n node)) 0 graph.now.nodes graph.now.terms) }
 {
     let mut instrs = List::new(alloc);
     let terms = graph.terms.as_slice();
@@ -39,7 +39,6 @@ pub(crate) fn register_code(
         let count = push_node(&mut instrs, particles, n, dens, k as u32, node, left)?;
         next += count;
     }
-    push_keys(&mut instrs, graph.keys.as_slice())?;
     Ok(instrs)
 }
 
@@ -104,19 +103,4 @@ fn push_terms(instrs: &mut List<Instr>, terms: &[Term], number: u32) -> Result<u
         })?;
     }
     Ok(terms.len())
-}
-
-fn push_keys(instrs: &mut List<Instr>, keys: &[KeyTerm]) -> Result<(), NoMemory>
-    ensures { OnOk result (map op_of instrs.new ≡ map op_of instrs.old ++ map key_op keys.now) }
-{
-    for key in keys {
-        instrs.push(Instr::Key {
-            flow: key.flow,
-            minus: key.minus,
-            vertex: key.vertex,
-            choice: key.choice,
-            branches: key.branches,
-        })?;
-    }
-    Ok(())
 }

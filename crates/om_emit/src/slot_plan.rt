@@ -1,12 +1,16 @@
 //! The first-fit plan.
-ghost use Rattle.std.specs.Prelude.{◌≡◌, ◌^◌, ◌<◌, ◌≤◌, ℕ, true, length, IfOk, vec_len, All, slice_index_or};
+ghost use Rattle.std.specs.Prelude.{◌≡◌, ◌+◌, ◌++◌, ◌^◌, ◌<◌, ◌≤◌, ℕ, true, length, IfOk, vec_len, All, slice_index_or};
 ghost use Rattle.om_code.specs.Spans.{is_named, width};
 ghost use Rattle.om_code.specs.SlotPlans.{first_fit, slot_or_0};
 ghost use Rattle.om_code.specs.Ops.{registers_of, lines_of_code};
-ghost use Rattle.om_emit.specs.Planning.{slot_in_plan, mark_each, last_uses};
+ghost use Rattle.om_code.specs.Slots.{nodes_of};
+ghost use Rattle.om_emit.specs.GraphCode.{key_lines};
+ghost use Rattle.om_emit.specs.Planning.{slot_in_plan, no_slots, planned, mark_each, last_uses};
 
 use crate::planner::Planner;
 use om_code::Instr;
+use om_graph::KeyTerm;
+use om_legs::Branches;
 use om_ring::NoMemory;
 use std::alloc::Global;
 use std::collections::BTreeSet;
@@ -48,7 +52,39 @@ pub fn first_fit(alloc: Global, instrs: &[Instr], registers: u32) -> Result<Slot
     ensures count { IfOk result (λ plan. plan.count ≡ width (lines_of_code instrs.now)) }
 {
     let last_uses = last_uses(alloc, instrs, registers)?;
-    let Ok(slots) = vec![in alloc; None; registers as usize] else {
+    let plan = plan_of(alloc, instrs, &last_uses)?;
+    Ok(plan)
+}
+
+/// The first-fit plan of instructions with keystone terms behind them, which name no register that the instructions don't.
+///
+/// Such terms get no slot, so that the instructions alone make the plan once the last use of each register is known.
+pub(crate) fn plan_with_keys(
+    alloc: Global,
+    instrs: &[Instr],
+    keys: &[KeyTerm],
+    registers: u32,
+) -> Result<SlotPlan, NoMemory>
+    requires few { registers < 2 ^ 31 }
+    requires in_range { (r : ℕ) → is_named (lines_of_code instrs.now) r ≡ true → r < registers }
+    requires known { (r : ℕ) → is_named (key_lines keys.now) r ≡ true → is_named (lines_of_code instrs.now) r ≡ true }
+    ensures plan { IfOk result (λ plan. (r : ℕ) → is_named (lines_of_code instrs.now) r ≡ true → slot_in_plan plan r ≡ first_fit (lines_of_code instrs.now ++ key_lines keys.now) r) }
+    ensures count { IfOk result (λ plan. plan.count ≡ width (lines_of_code instrs.now ++ key_lines keys.now)) }
+{
+    let last_uses = last_uses_with_keys(alloc, instrs, keys, registers)?;
+    let plan = plan_of(alloc, instrs, &last_uses)?;
+    Ok(plan)
+}
+
+// The plan that instructions make, where the last uses of registers are known.
+fn plan_of(alloc: Global, instrs: &[Instr], last_uses: &[usize]) -> Result<SlotPlan, NoMemory>
+    requires few { length last_uses.now < 2 ^ 31 }
+    requires in_range { All (λ instr. All (λ r. r < length last_uses.now) (registers_of instr)) instrs.now }
+    requires room { (i : ℕ) → i ≤ length instrs.now → (planned last_uses.now (lines_of_code instrs.now) (no_slots (length last_uses.now)) i).count ≤ length last_uses.now }
+    ensures slots { IfOk result (λ plan. plan.slots.items ≡ (planned last_uses.now (lines_of_code instrs.now) (no_slots (length last_uses.now)) (length instrs.now)).slots) }
+    ensures count { IfOk result (λ plan. plan.count ≡ (planned last_uses.now (lines_of_code instrs.now) (no_slots (length last_uses.now)) (length instrs.now)).count) }
+{
+    let Ok(slots) = vec![in alloc; None; last_uses.len()] else {
         return Err(NoMemory);
     };
     let mut planner = Planner {
@@ -60,12 +96,37 @@ pub fn first_fit(alloc: Global, instrs: &[Instr], registers: u32) -> Result<Slot
         let operands = instr.operands();
         let named = operands.as_slice();
         planner.give_all(named);
-        planner.release_all(named, &last_uses, i)?;
+        planner.release_all(named, last_uses, i)?;
     }
     Ok(SlotPlan {
         slots: planner.slots,
         count: planner.count,
     })
+}
+
+// By register, the last of the instructions and the keystone terms behind them that names it.
+fn last_uses_with_keys(
+    alloc: Global,
+    instrs: &[Instr],
+    keys: &[KeyTerm],
+    registers: u32,
+) -> Result<Vec<usize>, NoMemory>
+    requires in_range { All (λ instr. All (λ r. r < registers) (registers_of instr)) instrs.now }
+    requires keys_in_range { All (λ key. All (λ r. r < registers) (nodes_of key.branches)) keys.now }
+    ensures last { IfOk result (λ last. last.items ≡ last_uses registers (lines_of_code instrs.now ++ key_lines keys.now) (length instrs.now + length keys.now)) }
+    ensures length { IfOk result (λ last. vec_len last ≡ registers) }
+{
+    let mut last = last_uses(alloc, instrs, registers)?;
+    for (i, key) in keys.iter().enumerate() {
+        mark_each(&mut last, nodes_of(&key.branches), instrs.len() + i);
+    }
+    Ok(last)
+}
+
+fn nodes_of(branches: &Branches) -> &[u32]
+    ensures { result.now ≡ nodes_of branches.now }
+{
+    &branches.nodes[..branches.count as usize]
 }
 
 // By register, the last instruction that names it.

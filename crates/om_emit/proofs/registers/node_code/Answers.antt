@@ -1,11 +1,11 @@
-use Rattle.std.proofs.Common.{◌≡◌, ◌<◌, ℕ, arith, ap, ◌∙◌, map, ◌++◌, drop, length, get_or, length-drop}
+use Rattle.std.proofs.Common.{◌≡◌, ◌<◌, ℕ, arith, ap, ◌∙◌, drop, length, get_or, length-drop}
 use Rattle.om_model.specs.Model.{anti_field}
 use Rattle.om_graph.specs.declared.Key.{Key}
-use Rattle.om_emit.specs.GraphCode.{place_of, den_of, key_op}
+use Rattle.om_emit.specs.GraphCode.{place_of, den_of}
 use Rattle.om_emit.specs.GraphWalk.{walk_ops}
 use Rattle.om_emit.proofs.GraphSteps.{node_more, nodes_end}
-use Rattle.om_emit.proofs.registers.register_code.Goals as goal
-use Rattle.om_emit.proofs.registers.register_code.Goals.{In_ok-count}
+use Rattle.om_emit.proofs.registers.node_code.Goals as goal
+use Rattle.om_emit.proofs.registers.node_code.Goals.{In_ok-count}
 
 nodes_within : (c : In_ok-count) → c.loop-k.k < length c.args.graph.now.nodes
 nodes_within c = omega (arith, ap length c.as_slice-node-items.ensures)
@@ -25,5 +25,4 @@ loop-k-preserved c =
 pub returns : goal.returns
 returns c =
     let den : Key → ℕ = λ node. place_of c.args.dens.now (den_of (anti_field c.args.particles.now) c.args.n node) in
-    c.in_ok-push_keys.ensures ∙ ap (λ xs. xs ++ map key_op c.as_slice.result.now) (nodes_end den c.args.graph.now.nodes c.args.graph.now.terms c.loop-k.k (drop c.loop-k.next c.args.graph.now.terms) c.loop-k.instrs (walk_ops den 0 c.args.graph.now.nodes c.args.graph.now.terms) (omega (arith, ap length c.as_slice-node-items.ensures)) c.loop-k.invariant.ops)
-    ∙ ap (λ ys. walk_ops den 0 c.args.graph.now.nodes c.args.graph.now.terms ++ map key_op ys) c.as_slice.ensures
+    nodes_end den c.args.graph.now.nodes c.args.graph.now.terms c.loop-k.k (drop c.loop-k.next c.args.graph.now.terms) c.loop-k.instrs (walk_ops den 0 c.args.graph.now.nodes c.args.graph.now.terms) (omega (arith, ap length c.as_slice-node-items.ensures)) c.loop-k.invariant.ops

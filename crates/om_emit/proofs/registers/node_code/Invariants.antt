@@ -4,7 +4,7 @@ use Rattle.om_graph.specs.declared.Key.{Key}
 use Rattle.om_code.specs.Ops.{op_of}
 use Rattle.om_emit.specs.GraphCode.{place_of, den_of}
 use Rattle.om_emit.specs.GraphWalk.{walk_ops}
-use Rattle.om_emit.proofs.registers.register_code.Given as goal
+use Rattle.om_emit.proofs.registers.node_code.Given as goal
 
 abbrev pub invariant-loop-k : goal.invariant-loop-k
 invariant-loop-k l =
