@@ -153,9 +153,15 @@ fn put_branches(to: &mut [u8], at: usize, spelt: &[Spelling], branches: &Branche
     ensures short { result ≤ at + BRANCHES_BYTES }
     ensures same { length to.new ≡ length to.old }
 {
-    let mut end = at;
-    for node in &branches.nodes[..usize::from(branches.count)] {
-        end = put_number(to, end, spelt, u64::from(*node) + 1);
+    let [first, second, third, fourth] = branches.nodes;
+    let at = put_number(to, at, spelt, u64::from(first) + 1);
+    let at = put_number(to, at, spelt, u64::from(second) + 1);
+    if branches.count == 2 {
+        return at;
     }
-    end
+    let at = put_number(to, at, spelt, u64::from(third) + 1);
+    if branches.count == 3 {
+        return at;
+    }
+    put_number(to, at, spelt, u64::from(fourth) + 1)
 }
