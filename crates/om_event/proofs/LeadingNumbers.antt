@@ -1,7 +1,7 @@
 -- Numbers at the front of a line.
 use Rattle.std.proofs.Common.{◌≡◌, ℕ, zero, suc, ◌+◌, ◌-◌, ◌*◌, ◌≤◌, ◌<◌, ◌^◌, nat_eq, decimal, Bool, false, List, [], ◌∷◌, ◌++◌, length, take, drop, get_or, refl, ap, sym, subst, ◌∙◌, arith, inl, inr}
 use Rattle.std.specs.List.{prefix_len}
-use Rattle.std.proofs.Math.Seq.{take-add}
+use Rattle.std.proofs.Math.Seq.{drop-cons, take-add}
 use Rattle.std.proofs.lemmas.Bool.{cases_Bool, eqb-true}
 use Rattle.std.proofs.lemmas.Bool.Decides.{nat_tests}
 use Rattle.std.proofs.lemmas.List.{append_assoc, length-append, take-append-drop, take_all, length-drop, length-take-le, get_or-take}
@@ -105,6 +105,15 @@ decimal_at text n k d e h within lead =
     let c = decimal_of_digits (take k text) n d e h (omega (arith, size, lead.0)) (λ z. size ∙ lead.1 (sym first ∙ z)) in
     sym (take-append-drop k text) ∙ ap (λ (t : List ℕ). t ++ drop k text) c ∙ ap (λ (t : List ℕ). decimal n ++ t) (sym (rest_of text k))
 
+-- the decimal at the front of a text, before a byte
+pub decimal_stopped : (text : List ℕ) (n k stop : ℕ) → AllDigits (take k text) → n ≡ digits_value (take k text) → n < 2 ^ 64 → k < length text
+    → 0 < k → (get_or text 0 0 ≡ 48 → k ≡ 1) → get_or text k 0 ≡ stop → text ≡ decimal n ++ stop ∷ take (length text - (k + 1)) (drop (k + 1) text)
+decimal_stopped text n k stop d e h within some lead s =
+    let next : suc k ≡ k + 1 = omega arith in
+    let behind : drop k text ≡ stop ∷ drop (suc k) text = drop-cons text k 0 within ∙ ap (λ (b : ℕ). b ∷ drop (suc k) text) s in
+    decimal_at text n k d e h within (some, lead) ∙ ap (λ (t : List ℕ). decimal n ++ t) (rest_of text k ∙ behind
+    ∙ ap (λ (m : ℕ). stop ∷ drop m text) next ∙ ap (λ (t : List ℕ). stop ∷ t) (sym (rest_of text (k + 1))))
+
 -- more than one digit with a zero in front write less than as many digits without
 zero_in_front : (text : List ℕ) (k : ℕ) → AllDigits (take (k + 2) text) → k + 2 < length text → get_or text 0 0 ≡ 48 → digits_value (take (k + 2) text) < 10 ^ (k + 1)
 zero_in_front [] k d l z = absurd (omega (arith, l))
@@ -156,6 +165,12 @@ numeral_joined neg imag num den stop text unsigned behind_num behind_den behind 
     rw (p, q, r, s) (whole ∙ sym (append_assoc (sign_text neg) (decimal num ++ (shown_den den ++ mark_text imag)) (stop ∷ rest)
     ∙ ap (λ (t : List ℕ). sign_text neg ++ t) (append_assoc (decimal num) (shown_den den ++ mark_text imag) (stop ∷ rest)
     ∙ ap (λ (t : List ℕ). decimal num ++ t) (append_assoc (shown_den den) (mark_text imag) (stop ∷ rest)))))
+
+-- the parts of a whole numeral without mark
+pub whole_joined : (neg : Bool) (num stop : ℕ) (text unsigned rest : List ℕ) (x : Numeral) → text ≡ sign_text neg ++ unsigned
+    → unsigned ≡ decimal num ++ stop ∷ rest → x.neg ≡ neg → x.num ≡ num → x.den ≡ 1 → x.imag ≡ false → text ≡ number_before x stop rest
+whole_joined neg num stop text unsigned rest x a b p q r s =
+    numeral_joined neg false num 1 stop text unsigned (stop ∷ rest) (stop ∷ rest) (stop ∷ rest) rest x a b refl refl refl p q r s
 
 -- one digit is the decimal of its value
 pub one_digit : (k : ℕ) → k < 10 → (48 + k) ∷ [] ≡ decimal k

@@ -4,7 +4,7 @@ ghost use Rattle.om_ring.specs.Numerals.{NumeralFits, mark_text, numeral_text, s
 ghost use Rattle.om_event.specs.Written.{FourFits, IsWritten, LegFits, WaveFits, four_before, leg_of, number_before, wave_before, wave_of};
 
 use crate::WaveKind;
-use crate::digits::{Digits, digits_at_front};
+use crate::digits::{Digits, digits_at_front, digits_before};
 use om_lorentz::Four;
 use om_ring::Numeral;
 
@@ -103,27 +103,55 @@ fn behind_byte(text: &[u8], byte: u8) -> Option<&[u8]>
     }
 }
 
-// Reads the numeral at the front in its canonical text, and answers what follows the byte behind it.
+// The decimal at the front, before `stop`, and what follows that byte, if it has few digits or many. None says nothing of others.
 #[inline(always)]
+fn decimal_before(text: &[u8], stop: u8) -> Option<(u64, &[u8])>
+    ensures split { IfSome result (λ d. text.now ≡ decimal d.0 ++ stop ∷ d.1.now) }
+    ensures fits { IfSome result (λ d. d.0 < 2 ^ 64) }
+{
+    let Digits { value, len } = digits_before(text, stop)?;
+    Some((value, &text[len + 1..]))
+}
+
+// Reads the numeral at the front in its canonical text, behind its sign, and answers what follows the byte behind it.
 #[tactic(auto, using(crate::proofs::LeadingNumbers::numeral_joined))]
+fn any_before<'a>(
+    neg: bool,
+    unsigned: &'a [u8],
+    stop: u8,
+    numeral: &mut Numeral,
+) -> Option<&'a [u8]>
+    ensures split { IfSome result (λ rest. sign_text neg ++ unsigned.now ≡ number_before numeral.new stop rest.now) }
+    ensures fits { IfSome result (λ _. NumeralFits numeral.new) }
+{
+    let (num, behind_num) = decimal_at_front(unsigned)?;
+    let (den, behind_den) = denominator_at_front(behind_num)?;
+    let (imag, behind) = mark_at_front(behind_den);
+    let rest = behind_byte(behind, stop)?;
+    numeral.neg = neg;
+    numeral.num = num;
+    numeral.den = den;
+    numeral.imag = imag;
+    Some(rest)
+}
+
+// Reads the numeral at the front in its canonical text, and answers what follows the byte behind it. Whole ones without mark, as most
+// are, are tried first.
+#[inline(always)]
+#[tactic(auto, using(crate::proofs::LeadingNumbers::whole_joined))]
 fn numeral_before<'a>(text: &'a [u8], stop: u8, numeral: &mut Numeral) -> Option<&'a [u8]>
     ensures split { IfSome result (λ rest. text.now ≡ number_before numeral.new stop rest.now) }
     ensures fits { IfSome result (λ _. NumeralFits numeral.new) }
 {
     let (neg, unsigned) = sign_at_front(text);
-    let (num, behind_num) = decimal_at_front(unsigned)?;
+    let Some((num, rest)) = decimal_before(unsigned, stop) else {
+        let rest = any_before(neg, unsigned, stop, numeral)?;
+        return Some(rest);
+    };
     numeral.neg = neg;
     numeral.num = num;
-    if let Some(rest) = behind_byte(behind_num, stop) {
-        numeral.den = 1;
-        numeral.imag = false;
-        return Some(rest);
-    }
-    let (den, behind_den) = denominator_at_front(behind_num)?;
-    let (imag, behind) = mark_at_front(behind_den);
-    let rest = behind_byte(behind, stop)?;
-    numeral.den = den;
-    numeral.imag = imag;
+    numeral.den = 1;
+    numeral.imag = false;
     Some(rest)
 }
 
