@@ -1,6 +1,6 @@
 -- What stands at the front of some bytes stays there, whatever follows them.
-use Rattle.std.proofs.Common.{◌≡◌, ℕ, ◌+◌, ◌==◌, nat_eq, Bool, true, false, List, [], ◌∷◌, ◌++◌, length, refl, ap, cond}
-use Rattle.std.specs.Prelude.{nat_le, if◌then◌else◌, Result, Ok, Err}
+use Rattle.std.proofs.Common.{◌≡◌, ℕ, ◌+◌, ◌==◌, Bool, true, false, List, [], ◌∷◌, ◌++◌, length, refl, ap, cond}
+use Rattle.std.specs.Prelude.{nat_le, Result, Ok, Err}
 use Rattle.om_ring.specs.Ops.{Ops}
 use Rattle.om_event.specs.declared.cause.Cause.{Cause}
 use Rattle.om_event.specs.declared.cause.Cause.TheVariants.{TooLong}

@@ -177,10 +177,10 @@ pub one_digit : (k : ℕ) → k < 10 → (48 + k) ∷ [] ≡ decimal k
 one_digit k h = decimal_of_digits ((48 + k) ∷ []) k ((omega arith, omega (arith, h)), tt) (omega arith) (omega (arith, h)) (omega arith) (λ z. refl)
 
 -- the parts of a line, and what follows it
-pub leg_joined : (k : ℕ) (text behind_number numerals waves rest : List ℕ) (leg : Leg Numeral) → text ≡ decimal k ++ behind_number
-    → behind_number ≡ 32 ∷ numerals → numerals ≡ four_before leg.momentum 32 waves → waves ≡ wave_before leg.wave rest → text ≡ leg_before k leg rest
-leg_joined k text behind_number numerals waves rest leg e a b c =
-    e ∙ ap (λ (t : List ℕ). decimal k ++ t) (a ∙ ap (λ (t : List ℕ). 32 ∷ t) (b ∙ ap (four_before leg.momentum 32) c))
+pub leg_joined : (k : ℕ) (text numerals waves rest : List ℕ) (leg : Leg Numeral) → text ≡ decimal k ++ 32 ∷ numerals
+    → numerals ≡ four_before leg.momentum 32 waves → waves ≡ wave_before leg.wave rest → text ≡ leg_before k leg rest
+leg_joined k text numerals waves rest leg e b c =
+    e ∙ ap (λ (t : List ℕ). decimal k ++ 32 ∷ t) (b ∙ ap (four_before leg.momentum 32) c)
 
 -- what follows is shorter
 number_shorter : (x : Numeral) (stop : ℕ) (rest : List ℕ) → length rest < length (number_before x stop rest)

@@ -2,6 +2,7 @@ pub mod LineReads
 pub mod EightDigits
 pub mod LeadingNumbers
 pub mod WrittenLines
+pub mod Components
 pub mod Held
 pub mod FrontSteps
 pub mod EventSteps

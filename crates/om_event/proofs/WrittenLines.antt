@@ -25,7 +25,7 @@ use Rattle.om_event.specs.Pieces.{front_piece, behind_piece}
 use Rattle.om_event.specs.Lines.{value_in, leg_in, wave_size}
 use Rattle.om_event.specs.LineScan.{number_at, four_in, wave_in, wave_of_four, wave_of_one, numbers_in}
 use Rattle.om_event.specs.LineFronts.{line_of, spaces}
-use Rattle.om_event.specs.Written.{number_before, four_before, wave_before, leg_before, wave_of, FourFits, WaveFits, LegFits, IsWritten, IsLineOf, value_at, four_value, value_as, scalar_value, wave_value, leg_value}
+use Rattle.om_event.specs.Written.{number_before, four_before, wave_before, leg_before, FourFits, WaveFits, LegFits, IsWritten, IsLineOf, value_at, four_value, value_as, scalar_value, wave_value, leg_value}
 use Rattle.om_event.proofs.LineReads.{numbered}
 use Rattle.om_event.proofs.LeadingNumbers.{Solid, digits_solid, line-leading, line-closing, len-leading, len-closing, front-leading, front-closing, behind-leading, behind-closing, spaces-leading, spaces-closing}
 
@@ -233,10 +233,3 @@ module _ {E : Type 0} (o : Ops E) where
         few = few;
         more = omega (arith, w.size);
       }
-
--- a wave made of four numerals has its kind
-pub wave_of-kind : (kind : WaveKind) (p : Four Numeral) → kind_of (wave_of kind p) ≡ kind_named kind
-wave_of-kind Scalar p = refl
-wave_of-kind Row p = refl
-wave_of-kind Column p = refl
-wave_of-kind Vector p = refl

@@ -1,17 +1,16 @@
 -- What waiting for a line gives.
-use Rattle.std.specs.Prelude.{ℕ, ◌≡◌, ◌<◌, ◌≤◌, List, length, Option, IfOk}
+use Rattle.std.specs.Prelude.{ℕ, ◌≡◌, ◌<◌, ◌≤◌, List, length, Option}
 use Rattle.om_ring.specs.Ops.{Ops}
 use Rattle.om_io.specs.Causes.{Rose}
-use Rattle.om_kernel.specs.Waves.{kind_of}
 use Rattle.om_event.specs.declared.front.ReadLine.{ReadLine}
 use Rattle.om_event.specs.declared.kind.WaveKind.{WaveKind}
+use Rattle.om_event.specs.declared.line.Leg.{Leg}
 use Rattle.om_event.specs.declared.limits.TheConstants.{MOST_LINE_BYTES}
 use Rattle.om_event.specs.declared.waited.Waited.{Waited}
 use Rattle.om_event.specs.declared.waited.Waited.TheVariants as waited
 use Rattle.om_event.specs.Fronts.{line_len}
-use Rattle.om_event.specs.Kinds.{kind_named}
 use Rattle.om_event.specs.Next.{NoneLeft}
-use Rattle.om_event.specs.Written.{IsLineOf}
+use Rattle.om_event.specs.Written.{IsLineOf, said}
 
 -- a line that isn't whole and isn't too long
 abbrev pub IsShort : List ℕ → Type 0
@@ -24,17 +23,12 @@ Stands bytes waited.TooLong = MOST_LINE_BYTES < line_len bytes
 Stands bytes waited.Ended = IsShort bytes
 Stands bytes waited.Failed = IsShort bytes
 
--- the same where a line was read for leg k
-abbrev pub StandsAs : {E : Type 0} → Ops E → WaveKind → ℕ → List ℕ → Waited (ReadLine E) → Type 0
-StandsAs o kind k bytes (waited.Line line) = IsLineOf o kind k bytes line.leg line.len
-StandsAs o kind k bytes waited.TooLong = MOST_LINE_BYTES < line_len bytes
-StandsAs o kind k bytes waited.Ended = IsShort bytes
-StandsAs o kind k bytes waited.Failed = IsShort bytes
-
--- the wave of the leg that was read is of this kind
-abbrev pub HasKind : {E : Type 0} → WaveKind → Waited (ReadLine E) → Type 0
-HasKind kind (waited.Line line) = IfOk line.leg (λ leg. kind_of leg.wave ≡ kind_named kind)
-HasKind kind _ = Unit {0}
+-- the same where a line was read for leg k, into the place of a leg
+abbrev pub StandsAs : {E : Type 0} → Ops E → WaveKind → ℕ → List ℕ → Leg E → Waited ReadLine → Type 0
+StandsAs o kind k bytes leg (waited.Line line) = IsLineOf o kind k bytes (said line.leg leg) line.len
+StandsAs o kind k bytes leg waited.TooLong = MOST_LINE_BYTES < line_len bytes
+StandsAs o kind k bytes leg waited.Ended = IsShort bytes
+StandsAs o kind k bytes leg waited.Failed = IsShort bytes
 
 -- at an end, none is left where the source tells its bytes
 abbrev pub EndsAt : {T : Type 0} → Waited T → Option (List ℕ) → Type 0

@@ -1,5 +1,5 @@
 -- The text of a line, written out of numerals, and what it says.
-use Rattle.std.specs.Prelude.{ℕ, ◌≡◌, ◌≤◌, ◌<◌, ◌+◌, List, ◌∷◌, ◌++◌, length, take, Result, Ok, decimal}
+use Rattle.std.specs.Prelude.{ℕ, ◌≡◌, ◌≤◌, ◌<◌, ◌+◌, List, ◌∷◌, ◌++◌, length, take, Result, Ok, Err, decimal}
 use Rattle.om_ring.specs.Ops.{Ops}
 use Rattle.om_ring.specs.ResultSteps.{◌>>=◌}
 use Rattle.om_ring.specs.Products.{value_of}
@@ -35,14 +35,14 @@ wave_before (wave.Vector p) rest = four_before p 10 rest
 abbrev pub leg_before : ℕ → Leg Numeral → List ℕ → List ℕ
 leg_before k leg rest = decimal k ++ 32 ∷ four_before leg.momentum 32 (wave_before leg.wave rest)
 
--- the wave of a kind, of which a scalar's numeral is the first of four
-abbrev pub wave_of : WaveKind → Four Numeral → Wave Numeral
+-- the wave of a kind, of which a scalar's component is the first of four
+abbrev pub wave_of : {E : Type 0} → WaveKind → Four E → Wave E
 wave_of Scalar p = wave.Scalar p.t
 wave_of Row p = wave.Row p
 wave_of Column p = wave.Column p
 wave_of Vector p = wave.Vector p
 
-abbrev pub leg_of : WaveKind → Four Numeral → Four Numeral → Leg Numeral
+abbrev pub leg_of : {E : Type 0} → WaveKind → Four E → Four E → Leg E
 leg_of kind p w = record { momentum = p; wave = wave_of kind w }
 
 -- the numbers fit 64 bits
@@ -61,6 +61,11 @@ WaveFits (wave.Vector p) = FourFits p
 pub record LegFits (leg : Leg Numeral) : Type 0 where
   pub momentum : FourFits leg.momentum
   pub wave : WaveFits leg.wave
+
+-- what is said where something was read into a place, or a cause is told
+abbrev pub said : {U X : Type 0} → Result U Cause → X → Result X Cause
+said (Ok done) x = Ok x
+said (Err cause) x = Err cause
 
 -- some bytes begin with the line of leg k, of so many bytes before its line feed
 pub record IsWritten (k : ℕ) (text : List ℕ) (leg : Leg Numeral) (len : ℕ) : Type 0 where

@@ -6,6 +6,7 @@
 mod cause;
 mod digits;
 mod eights;
+mod fours;
 mod front;
 mod hold;
 mod kind;

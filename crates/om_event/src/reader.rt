@@ -8,6 +8,7 @@ ghost use Rattle.om_event.specs.Next.{Stays, Gives, GivesEnd, GivesEvent, AtEnd}
 ghost use Rattle.om_event.specs.declared.limits.TheConstants.{MOST_EVENTS};
 ghost use Rattle.om_legs.specs.declared.leg_set.TheConstants.{MOST_LEGS};
 
+use crate::fours::{make_scratch, set_leg};
 use crate::front::ReadLine;
 use crate::hold::Hold;
 use crate::kind::kind_of_field;
@@ -178,14 +179,15 @@ fn read_event<R: Ring<Mark = L>, S: Source, L>(
     ensures later { S.faults input.old ≤ S.faults input.new }
     ensures at_most { steps.new ≤ steps.old + length kinds.now * (32 * R.cost ring.now) }
 {
+    let mut scratch = make_scratch(ring);
     let mut leg = 0;
     for kind in kinds {
         let before = leg;
         leg += 1;
-        match next_line(ring, *kind, leg, hold, input, steps) {
+        match next_line(ring, *kind, leg, hold, input, &mut scratch, steps) {
             Waited::Line(ReadLine { leg: said, len }) => {
                 match said {
-                    Ok(read) => event.set(leg, read.momentum, read.wave),
+                    Ok(()) => set_leg(event, leg, *kind, &scratch.values),
                     Err(cause) => return Next::Bad {
                         event: number,
                         line: leg,

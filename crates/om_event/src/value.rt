@@ -1,13 +1,10 @@
 //! The values of the numerals of a line.
-ghost use Rattle.std.specs.Prelude.{◌≡◌, ◌+◌, ◌*◌, ◌≤◌, IfOk};
+ghost use Rattle.std.specs.Prelude.{◌≡◌, ◌+◌, ◌*◌, ◌≤◌};
 ghost use Rattle.om_ring.specs.Ops.{signed};
-ghost use Rattle.om_kernel.specs.Waves.{kind_of};
-ghost use Rattle.om_event.specs.Kinds.{kind_named};
-ghost use Rattle.om_event.specs.Written.{four_value, leg_of, leg_value, value_at, wave_of, wave_value};
+ghost use Rattle.om_event.specs.Written.{four_value, leg_of, leg_value, said, value_at, wave_of, wave_value};
 
-use crate::line::Leg;
+use crate::fours::Fours;
 use crate::{Cause, WaveKind};
-use om_kernel::Wave;
 use om_lorentz::Four;
 use om_ring::{Numeral, Ring, Steps, value_of};
 
@@ -42,59 +39,59 @@ fn value_at<R: Ring<Mark = L>, L>(
     }
 }
 
-// The values of four.
+// Puts the values of four.
+#[inline(always)]
 #[tactic(auto, unfolding(crate::specs::Written::four_value))]
-fn four_value<R: Ring<Mark = L>, L>(
+fn put_four<R: Ring<Mark = L>, L>(
     ring: &R,
     p: &Four<Numeral>,
+    to: &mut Four<R::E>,
     steps: &mut Steps<L>,
-) -> Result<Four<R::E>, Cause>
-    ensures value { result ≡ four_value (R.ops ring.now) p.now }
+) -> Result<(), Cause>
+    ensures value { four_value (R.ops ring.now) p.now ≡ said result to.new }
     ensures at_most { steps.new ≤ steps.old + 16 * R.cost ring.now }
 {
-    let t = value_at(ring, &p.t, steps)?;
-    let x = value_at(ring, &p.x, steps)?;
-    let y = value_at(ring, &p.y, steps)?;
-    let z = value_at(ring, &p.z, steps)?;
-    Ok(Four { t, x, y, z })
+    to.t = value_at(ring, &p.t, steps)?;
+    to.x = value_at(ring, &p.x, steps)?;
+    to.y = value_at(ring, &p.y, steps)?;
+    to.z = value_at(ring, &p.z, steps)?;
+    Ok(())
 }
 
-// The wave of these numerals, of which a scalar's is the first.
+// Puts the values of a wave, of which a scalar's is the first.
 #[inline(always)]
 #[tactic(auto, unfolding(crate::specs::Written::scalar_value, crate::specs::Written::value_as))]
-fn wave_value<R: Ring<Mark = L>, L>(
+fn put_wave<R: Ring<Mark = L>, L>(
     ring: &R,
     kind: WaveKind,
     wave: &Four<Numeral>,
+    to: &mut Four<R::E>,
     steps: &mut Steps<L>,
-) -> Result<Wave<R::E>, Cause>
-    ensures value { result ≡ wave_value (R.ops ring.now) (wave_of kind wave.now) }
-    ensures kind { IfOk result (λ w. kind_of w ≡ kind_named kind) }
+) -> Result<(), Cause>
+    ensures value { wave_value (R.ops ring.now) (wave_of kind wave.now) ≡ said result (wave_of kind to.new) }
     ensures at_most { steps.new ≤ steps.old + 16 * R.cost ring.now }
 {
     match kind {
-        WaveKind::Scalar => Ok(Wave::Scalar(value_at(ring, &wave.t, steps)?)),
-        WaveKind::Row => Ok(Wave::Row(four_value(ring, wave, steps)?)),
-        WaveKind::Column => Ok(Wave::Column(four_value(ring, wave, steps)?)),
-        WaveKind::Vector => Ok(Wave::Vector(four_value(ring, wave, steps)?)),
+        WaveKind::Scalar => to.t = value_at(ring, &wave.t, steps)?,
+        WaveKind::Row | WaveKind::Column | WaveKind::Vector => put_four(ring, wave, to, steps)?,
     }
+    Ok(())
 }
 
-// The leg of these numerals, or that one of them has no value.
+// Puts the values of a leg, or tells that a numeral of it has none.
 #[inline(always)]
 #[tactic(auto, unfolding(crate::specs::Written::leg_value))]
-pub(crate) fn leg_value<R: Ring<Mark = L>, L>(
+pub(crate) fn put_leg<R: Ring<Mark = L>, L>(
     ring: &R,
     kind: WaveKind,
-    momentum: &Four<Numeral>,
-    wave: &Four<Numeral>,
+    numerals: &Fours<Numeral>,
+    values: &mut Fours<R::E>,
     steps: &mut Steps<L>,
-) -> Result<Leg<R::E>, Cause>
-    ensures value { result ≡ leg_value (R.ops ring.now) (leg_of kind momentum.now wave.now) }
-    ensures kind { IfOk result (λ l. kind_of l.wave ≡ kind_named kind) }
+) -> Result<(), Cause>
+    ensures value { leg_value (R.ops ring.now) (leg_of kind numerals.now.momentum numerals.now.wave) ≡ said result (leg_of kind values.new.momentum values.new.wave) }
     ensures at_most { steps.new ≤ steps.old + 32 * R.cost ring.now }
 {
-    let momentum = four_value(ring, momentum, steps)?;
-    let wave = wave_value(ring, kind, wave, steps)?;
-    Ok(Leg { momentum, wave })
+    put_four(ring, &numerals.momentum, &mut values.momentum, steps)?;
+    put_wave(ring, kind, &numerals.wave, &mut values.wave, steps)?;
+    Ok(())
 }

@@ -1,10 +1,11 @@
 //! The numerals of a line, from its front.
-ghost use Rattle.std.specs.Prelude.{◌≡◌, ◌++◌, ◌∷◌, ◌≤◌, ◌<◌, ◌^◌, ◌+◌, ◌-◌, length, IfSome, decimal};
+ghost use Rattle.std.specs.Prelude.{ℕ, List, ◌≡◌, ◌++◌, ◌∷◌, ◌≤◌, ◌<◌, ◌^◌, ◌+◌, ◌-◌, length, IfSome, decimal};
 ghost use Rattle.om_ring.specs.Numerals.{NumeralFits, mark_text, numeral_text, shown_den, sign_text};
 ghost use Rattle.om_event.specs.Written.{FourFits, IsWritten, LegFits, WaveFits, four_before, leg_of, number_before, wave_before, wave_of};
 
 use crate::WaveKind;
 use crate::digits::{Digits, digits_at_front, digits_before};
+use crate::fours::Fours;
 use om_lorentz::Four;
 use om_ring::Numeral;
 
@@ -167,50 +168,65 @@ fn four_before<'a>(text: &'a [u8], stop: u8, p: &mut Four<Numeral>) -> Option<&'
     Some(rest)
 }
 
-// Reads the numerals of a wave, before a line feed. A scalar's is the first.
+// Reads the numerals of a wave, before a line feed, and answers how many bytes follow it. A scalar's is the first.
 #[inline(always)]
-fn wave_before<'a>(kind: WaveKind, text: &'a [u8], wave: &mut Four<Numeral>) -> Option<&'a [u8]>
-    ensures split { IfSome result (λ rest. text.now ≡ wave_before (wave_of kind wave.new) rest.now) }
+fn wave_before(kind: WaveKind, text: &[u8], wave: &mut Four<Numeral>) -> Option<usize>
+    ensures split { IfSome result (λ left. (rest : List ℕ) × (text.now ≡ wave_before (wave_of kind wave.new) rest) × (left ≡ length rest)) }
     ensures fits { IfSome result (λ _. WaveFits (wave_of kind wave.new)) }
 {
     match kind {
-        WaveKind::Scalar => numeral_before(text, b'\n', &mut wave.t),
-        WaveKind::Row | WaveKind::Column | WaveKind::Vector => four_before(text, b'\n', wave),
+        WaveKind::Scalar => {
+            let rest = numeral_before(text, b'\n', &mut wave.t)?;
+            Some(rest.len())
+        }
+        WaveKind::Row | WaveKind::Column | WaveKind::Vector => {
+            let rest = four_before(text, b'\n', wave)?;
+            Some(rest.len())
+        }
     }
 }
 
-// What follows the number of leg `k` at the front.
+// What follows this byte and a space at the front.
+#[inline(always)]
+fn behind_byte_and_space(text: &[u8], byte: u8) -> Option<&[u8]>
+    ensures { IfSome result (λ rest. text.now ≡ byte ∷ 32 ∷ rest.now) }
+{
+    match text {
+        [first, b' ', rest @ ..] if *first == byte => Some(rest),
+        _ => None,
+    }
+}
+
+// What follows the number of leg `k` and a space at the front.
 #[inline(always)]
 fn behind_leg_number(text: &[u8], k: u8) -> Option<&[u8]>
-    ensures { IfSome result (λ rest. text.now ≡ decimal k ++ rest.now) }
+    ensures { IfSome result (λ rest. text.now ≡ decimal k ++ 32 ∷ rest.now) }
 {
     if k < 10 {
-        let rest = behind_byte(text, b'0' + k)?;
+        let rest = behind_byte_and_space(text, b'0' + k)?;
         return Some(rest);
     }
-    let (number, rest) = decimal_at_front(text)?;
-    if number == u64::from(k) {
-        Some(rest)
-    } else {
-        None
+    let (number, behind) = decimal_at_front(text)?;
+    if number != u64::from(k) {
+        return None;
     }
+    let rest = behind_byte(behind, b' ')?;
+    Some(rest)
 }
 
 // Reads the line of leg `k` at the front, if it is whole and each of its numerals has its canonical text, and answers its length
-// without the line feed. Two fours are written in place, since a leg that is handed on is copied at each call.
+// without the line feed.
 pub(crate) fn leg_at_front(
     kind: WaveKind,
     k: u8,
     text: &[u8],
-    momentum: &mut Four<Numeral>,
-    wave: &mut Four<Numeral>,
+    numerals: &mut Fours<Numeral>,
 ) -> Option<usize>
-    ensures read { IfSome result (λ len. IsWritten k text.now (leg_of kind momentum.new wave.new) len) }
-    ensures fits { IfSome result (λ _. LegFits (leg_of kind momentum.new wave.new)) }
+    ensures read { IfSome result (λ len. IsWritten k text.now (leg_of kind numerals.new.momentum numerals.new.wave) len) }
+    ensures fits { IfSome result (λ _. LegFits (leg_of kind numerals.new.momentum numerals.new.wave)) }
 {
     let behind_number = behind_leg_number(text, k)?;
-    let numerals = behind_byte(behind_number, b' ')?;
-    let waves = four_before(numerals, b' ', momentum)?;
-    let rest = wave_before(kind, waves, wave)?;
-    Some(text.len() - rest.len() - 1)
+    let waves = four_before(behind_number, b' ', &mut numerals.momentum)?;
+    let left = wave_before(kind, waves, &mut numerals.wave)?;
+    Some(text.len() - left - 1)
 }

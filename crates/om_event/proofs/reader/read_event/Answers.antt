@@ -3,7 +3,7 @@ use Rattle.std.proofs.Math.Seq.{drop-cons}
 use Rattle.std.proofs.lemmas.Grind.{common_steps}
 use Rattle.std.proofs.lemmas.List.{length-map}
 use Rattle.std.specs.Io.{appended_bytes}
-use Rattle.std.specs.Prelude.{Ok, Err, IfOk, slice_set}
+use Rattle.std.specs.Prelude.{Ok, Err, slice_set}
 use Rattle.om_event.specs.Fronts.{line_len}
 use Rattle.om_event.specs.Lines.{leg_in}
 use Rattle.om_event.proofs.reader.read_event.Goals.{else-before-eq0-via-then-before-eq0+else-is_empty, else-before-eq0-via-else-before-eq0}
@@ -11,6 +11,8 @@ use Rattle.om_kernel.specs.Waves.{kind_of}
 use Rattle.om_event.specs.Kinds.{kind_named}
 use Rattle.om_event.specs.declared.kind.WaveKind.TheVariants.{Scalar}
 use Rattle.om_event.proofs.EventSteps.{IsReading, kind_stands, starts_reading, no_cut, refused, not_at_end, is_bad, one_line, keeps_kinds, goes_on, told_more, idle_now, not_idle, is_open, is_long, is_whole, some_bytes}
+use Rattle.om_event.specs.Written.{leg_of, said, wave_of}
+use Rattle.om_event.proofs.Components.{wave_of-kind}
 use Rattle.om_event.proofs.Held.{before_told-nil}
 use Rattle.om_event.proofs.reader.read_event.Goals as goal
 
@@ -25,7 +27,10 @@ loop-kind-init g c = record {
 
 pub returns-in-Err-clause-end : goal.returns-in-Err-clause-end
 returns-in-Err-clause-end g c =
-    not_at_end c.args.number (c.loop-kind.leg + 1) c.in-Err.cause _ (no_cut (g.R.Ring.ops c.args.ring.now) _ _ _ c.in-Err.cause (c.in-Line.ensures.stands.read ∙ c.in-Err.is))
+    let values = c.next_line.new.scratch.values in
+    let kind = get_or c.args.kinds.now c.loop-kind.kind-index Scalar in
+    let told = ap (λ r. said r (leg_of kind values.momentum values.wave)) c.in-Err.is in
+    not_at_end c.args.number (c.loop-kind.leg + 1) c.in-Err.cause _ (no_cut (g.R.Ring.ops c.args.ring.now) _ _ _ c.in-Err.cause (c.in-Line.ensures.stands.read ∙ told))
 
 pub returns-in-Err-clause-gives : goal.returns-in-Err-clause-gives
 returns-in-Err-clause-gives g c =
@@ -41,8 +46,9 @@ returns-in-Err-clause-gives g c =
     let r = goes_on o kinds old held i c.loop-kind.event inv.read.0 now inv.read.2 c.next_line.ensures.more in
     let here = drop-cons kinds i Scalar c.loop-kind-test.true in
     let stands = c.in-Line.ensures.stands in
+    let values = c.next_line.new.scratch.values in
     let f : leg_in o kind (c.loop-kind.leg + 1) (take (line_len now) now) ≡ Err c.in-Err.cause = ap (λ n. leg_in o kind (c.loop-kind.leg + 1) (take n now)) (sym stands.len)
-    ∙ stands.read ∙ c.in-Err.is in
+    ∙ stands.read ∙ ap (λ r. said r (leg_of kind values.momentum values.wave)) c.in-Err.is in
     let front = is_bad o kinds old now i c.loop-kind.event came kind _ here (c.loop-kind.leg + 1) (omega (arith, inv.leg_is)) r (omega (arith, stands.len, stands.more)) (omega (arith, stands.len, stands.few)) c.in-Err.cause f in (
       came,
       told_more inv.read.0 (appended_bytes held now) _ _ _ inv.read.1 c.next_line.ensures.left,
@@ -50,10 +56,11 @@ returns-in-Err-clause-gives g c =
       not_idle o kinds old now i c.loop-kind.event came r (omega (arith, stands.more)),
     )
 
-pub set-requires-clause-kind : goal.set-requires-clause-kind
-set-requires-clause-kind g c =
-    let kind : kind_of c.in-Ok.read.wave ≡ kind_named (get_or c.args.kinds.now c.loop-kind.kind-index Scalar) = subst (λ said. IfOk said (λ leg. kind_of leg.wave ≡ kind_named (get_or c.args.kinds.now c.loop-kind.kind-index Scalar))) c.in-Ok.is c.in-Line.ensures.kind in
-    kind_stands c.args.kinds.now c.loop-kind.event c.loop-kind.kind-index (c.loop-kind.leg + 1 - 1) Scalar c.in-Ok.read.wave c.loop-kind.invariant.made (omega (arith, c.loop-kind.invariant.leg_is)) c.loop-kind-test.true kind
+pub set_leg-requires-clause-kind : goal.set_leg-requires-clause-kind
+set_leg-requires-clause-kind g c =
+    let kind = get_or c.args.kinds.now c.loop-kind.kind-index Scalar in
+    let wave = c.next_line.new.scratch.values.wave in
+    kind_stands c.args.kinds.now c.loop-kind.event c.loop-kind.kind-index (c.loop-kind.leg + 1 - 1) Scalar (wave_of kind wave) c.loop-kind.invariant.made (omega (arith, c.loop-kind.invariant.leg_is)) c.loop-kind-test.true (wave_of-kind kind wave)
 
 pub loop-kind-preserved : goal.loop-kind-preserved
 loop-kind-preserved g c =
@@ -69,30 +76,31 @@ loop-kind-preserved g c =
     let r = goes_on o kinds old held i c.loop-kind.event inv.read.0 now inv.read.2 c.next_line.ensures.more in
     let here = drop-cons kinds i Scalar c.loop-kind-test.true in
     let stands = c.in-Line.ensures.stands in
-    let leg = c.in-Ok.read in
-    let its_kind : kind_of leg.wave ≡ kind_named kind = subst (λ said. IfOk said (λ leg. kind_of leg.wave ≡ kind_named kind)) c.in-Ok.is c.in-Line.ensures.kind in
+    let values = c.next_line.new.scratch.values in
+    let leg = leg_of kind values.momentum values.wave in
+    let its_kind : kind_of leg.wave ≡ kind_named kind = wave_of-kind kind values.wave in
     let e = c.loop-kind.event in
     let place : c.loop-kind.leg + 1 - 1 ≡ i = omega (arith, inv.leg_is) in
     let same : i + 1 ≡ c.loop-kind.leg + 1 = omega (arith, inv.leg_is) in
     let many : length e.waves ≡ length kinds = sym (length-map e.waves kind_of) ∙ ap length inv.made.waves ∙ length-map kinds kind_named in
     let f : leg_in o kind (i + 1) (take (line_len now) now) ≡ Ok leg = ap (λ n. leg_in o kind n (take (line_len now) now)) same
-    ∙ ap (λ n. leg_in o kind (c.loop-kind.leg + 1) (take n now)) (sym stands.len) ∙ stands.read ∙ c.in-Ok.is in
-    let m : c.set.new.self.momenta ≡ slice_set e.momenta i leg.momentum = c.set.ensures.momenta
+    ∙ ap (λ n. leg_in o kind (c.loop-kind.leg + 1) (take n now)) (sym stands.len) ∙ stands.read ∙ ap (λ r. said r leg) c.in-Ok.is in
+    let m : c.set_leg.new.event.momenta ≡ slice_set e.momenta i leg.momentum = c.set_leg.ensures.momenta
     ∙ ap (λ n. slice_set e.momenta n leg.momentum) place in
-    let w : c.set.new.self.waves ≡ slice_set e.waves i leg.wave = c.set.ensures.waves ∙ ap (λ n. slice_set e.waves n leg.wave) place in
+    let w : c.set_leg.new.event.waves ≡ slice_set e.waves i leg.wave = c.set_leg.ensures.waves ∙ ap (λ n. slice_set e.waves n leg.wave) place in
     let within : i < length kinds = c.loop-kind-test.true in
     let next : i + 1 ≡ suc i = omega arith in
-    let read = one_line o kinds old now i e came kind _ here r (omega (arith, stands.len, stands.more)) (omega (arith, stands.len, stands.few)) leg c.set.new.self f (omega (arith, within, inv.made.momenta)) (omega (arith, within, many)) m w (ap (λ n. drop n kinds) next) in
+    let read = one_line o kinds old now i e came kind _ here r (omega (arith, stands.len, stands.more)) (omega (arith, stands.len, stands.few)) leg c.set_leg.new.event f (omega (arith, within, inv.made.momenta)) (omega (arith, within, many)) m w (ap (λ n. drop n kinds) next) in
     let dropped : drop (line_len now + 1) now ≡ c.drop_front.new.self = ap (λ n. drop (n + 1) now) (sym stands.len) ∙ sym c.drop_front.ensures in
     record {
       leg_is = ap (λ n. n + 1) inv.leg_is;
-      made = keeps_kinds kinds e c.set.new.self i kind Scalar leg.momentum leg.wave inv.made m w within refl its_kind;
+      made = keeps_kinds kinds e c.set_leg.new.event i kind Scalar leg.momentum leg.wave inv.made m w within refl its_kind;
       later = omega (arith, inv.later, c.next_line.ensures.later);
       at_most = omega (arith, inv.at_most, c.next_line.ensures.at_most);
       read = (
         came,
         told_more inv.read.0 (appended_bytes held now) _ _ _ inv.read.1 c.next_line.ensures.left,
-        subst (λ t. IsReading o kinds old t (i + 1) c.set.new.self came) dropped read,
+        subst (λ t. IsReading o kinds old t (i + 1) c.set_leg.new.event came) dropped read,
         λ z. absurd (omega (arith, z)),
       );
     }
