@@ -1,7 +1,7 @@
 -- Numbers at the front of a line.
 use Rattle.std.proofs.Common.{◌≡◌, ℕ, zero, suc, ◌+◌, ◌-◌, ◌*◌, ◌≤◌, ◌<◌, ◌^◌, nat_eq, decimal, Bool, false, List, [], ◌∷◌, ◌++◌, length, take, drop, get_or, refl, ap, sym, subst, ◌∙◌, arith, inl, inr}
 use Rattle.std.specs.List.{prefix_len}
-use Rattle.std.proofs.Math.Seq.{drop-cons, take-add}
+use Rattle.std.proofs.Math.Seq.{drop-append_seam, drop-cons, take-add}
 use Rattle.std.proofs.lemmas.Bool.{cases_Bool, eqb-true}
 use Rattle.std.proofs.lemmas.Bool.Decides.{nat_tests}
 use Rattle.std.proofs.lemmas.List.{append_assoc, length-append, take-append-drop, take_all, length-drop, length-take-le, get_or-take}
@@ -165,6 +165,26 @@ numeral_joined neg imag num den stop text unsigned behind_num behind_den behind 
     rw (p, q, r, s) (whole ∙ sym (append_assoc (sign_text neg) (decimal num ++ (shown_den den ++ mark_text imag)) (stop ∷ rest)
     ∙ ap (λ (t : List ℕ). sign_text neg ++ t) (append_assoc (decimal num) (shown_den den ++ mark_text imag) (stop ∷ rest)
     ∙ ap (λ (t : List ℕ). decimal num ++ t) (append_assoc (shown_den den) (mark_text imag) (stop ∷ rest)))))
+
+tail_of : (front rest text : List ℕ) → text ≡ front ++ rest → drop (length text - length rest) text ≡ rest
+tail_of front rest text e =
+    let l : length text ≡ length front + length rest = ap length e ∙ length-append front rest in
+    let k : length text - length rest ≡ length front = omega (arith, l) in
+    ap (λ (n : ℕ). drop n text) k ∙ ap (drop (length front)) e ∙ drop-append_seam front rest
+
+-- what follows a numeral, found by its length
+pub numeral_ahead : (neg imag : Bool) (num den stop : ℕ) (unsigned behind_num behind_den behind rest : List ℕ) (x : Numeral)
+    → unsigned ≡ decimal num ++ behind_num → behind_num ≡ shown_den den ++ behind_den → behind_den ≡ mark_text imag ++ behind → behind ≡ stop ∷ rest
+    → x.neg ≡ neg → x.num ≡ num → x.den ≡ den → x.imag ≡ imag → sign_text neg ++ unsigned ≡ number_before x stop (drop (length unsigned - length rest) unsigned)
+numeral_ahead neg imag num den stop unsigned behind_num behind_den behind rest x b c d e p q r s =
+    let end : List ℕ = mark_text imag ++ stop ∷ [] in
+    let front : List ℕ = decimal num ++ (shown_den den ++ end) in
+    let parts : unsigned ≡ decimal num ++ (shown_den den ++ (mark_text imag ++ stop ∷ rest)) = b
+    ∙ ap (λ (t : List ℕ). decimal num ++ t) (c ∙ ap (λ (t : List ℕ). shown_den den ++ t) (d ∙ ap (λ (t : List ℕ). mark_text imag ++ t) e)) in
+    let joined : front ++ rest ≡ decimal num ++ (shown_den den ++ (mark_text imag ++ stop ∷ rest)) = append_assoc (decimal num) (shown_den den ++ end) rest
+    ∙ ap (λ (t : List ℕ). decimal num ++ t) (append_assoc (shown_den den) end rest ∙ ap (λ (t : List ℕ). shown_den den ++ t) (append_assoc (mark_text imag) (stop ∷ []) rest)) in
+    numeral_joined neg imag num den stop (sign_text neg ++ unsigned) unsigned behind_num behind_den behind rest x refl b c d e p q r s
+    ∙ ap (number_before x stop) (sym (tail_of front rest unsigned (parts ∙ sym joined)))
 
 -- the parts of a whole numeral without mark
 pub whole_joined : (neg : Bool) (num stop : ℕ) (text unsigned rest : List ℕ) (x : Numeral) → text ≡ sign_text neg ++ unsigned

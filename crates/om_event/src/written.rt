@@ -1,5 +1,5 @@
 //! The numerals of a line, from its front.
-ghost use Rattle.std.specs.Prelude.{ℕ, List, ◌≡◌, ◌++◌, ◌∷◌, ◌≤◌, ◌<◌, ◌^◌, ◌+◌, ◌-◌, length, IfSome, decimal};
+ghost use Rattle.std.specs.Prelude.{ℕ, List, ◌≡◌, ◌++◌, ◌∷◌, ◌≤◌, ◌<◌, ◌^◌, ◌+◌, ◌-◌, length, drop, IfSome, decimal};
 ghost use Rattle.om_ring.specs.Numerals.{NumeralFits, mark_text, numeral_text, shown_den, sign_text};
 ghost use Rattle.om_event.specs.Written.{FourFits, IsWritten, LegFits, WaveFits, four_before, leg_of, number_before, wave_before, wave_of};
 
@@ -114,15 +114,10 @@ fn decimal_before(text: &[u8], stop: u8) -> Option<(u64, &[u8])>
     Some((value, &text[len + 1..]))
 }
 
-// Reads the numeral at the front in its canonical text, behind its sign, and answers what follows the byte behind it.
-#[tactic(auto, using(crate::proofs::LeadingNumbers::numeral_joined))]
-fn any_before<'a>(
-    neg: bool,
-    unsigned: &'a [u8],
-    stop: u8,
-    numeral: &mut Numeral,
-) -> Option<&'a [u8]>
-    ensures split { IfSome result (λ rest. sign_text neg ++ unsigned.now ≡ number_before numeral.new stop rest.now) }
+// Reads the numeral at the front in its canonical text, behind its sign, and answers how many bytes it has with the byte behind it.
+fn any_before(neg: bool, unsigned: &[u8], stop: u8, numeral: &mut Numeral) -> Option<usize>
+    ensures within { IfSome result (λ read. read ≤ length unsigned.now) }
+    ensures split { IfSome result (λ read. sign_text neg ++ unsigned.now ≡ number_before numeral.new stop (drop read unsigned.now)) }
     ensures fits { IfSome result (λ _. NumeralFits numeral.new) }
 {
     let (num, behind_num) = decimal_at_front(unsigned)?;
@@ -133,7 +128,7 @@ fn any_before<'a>(
     numeral.num = num;
     numeral.den = den;
     numeral.imag = imag;
-    Some(rest)
+    Some(unsigned.len() - rest.len())
 }
 
 // Reads the numeral at the front in its canonical text, and answers what follows the byte behind it. Whole ones without mark, as most
@@ -146,8 +141,8 @@ fn numeral_before<'a>(text: &'a [u8], stop: u8, numeral: &mut Numeral) -> Option
 {
     let (neg, unsigned) = sign_at_front(text);
     let Some((num, rest)) = decimal_before(unsigned, stop) else {
-        let rest = any_before(neg, unsigned, stop, numeral)?;
-        return Some(rest);
+        let read = any_before(neg, unsigned, stop, numeral)?;
+        return Some(&unsigned[read..]);
     };
     numeral.neg = neg;
     numeral.num = num;
