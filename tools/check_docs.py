@@ -1,14 +1,16 @@
 #!/usr/bin/env python3
-"""Runs each command of README.md and docs/ and compares what it prints with what stands beside it.
+"""Runs each command of README.md and docs/, compares what it prints with what stands beside it, and looks for each message in docs/messages.md.
 
     check_docs.py OMEGA [FILE ..]
 
 A block ```console holds commands, each after `$ ` (a line that begins with `> ` goes on with it), and below each command what it prints
-on both streams. A page's blocks run in order in one empty folder with `models` and `tools` in it, and with `omega` to be called.
+on both streams. A page's blocks run in order in one empty folder with `models` and `tools` in it, and with `omega` to be called. The pieces of
+messages are the texts in om_top/src/message.rt and om_top/src/faults.
 """
 
 import os
 import pathlib
+import re
 import shutil
 import subprocess
 import sys
@@ -52,12 +54,24 @@ def check(page, omega):
     return wrong
 
 
+def missing_messages():
+    page = (TOP / "docs" / "messages.md").read_text()
+    sources = TOP / "crates" / "om_top" / "src"
+    missing = 0
+    for source in [sources / "message.rt", *sorted((sources / "faults").glob("*.rt"))]:
+        for piece in re.findall(r'b"([^"]*)"', source.read_text()):
+            if piece.replace("\\n", "") not in page:
+                missing += 1
+                print(f"{source.relative_to(TOP)}: not in docs/messages.md: {piece}")
+    return missing
+
+
 def main():
     omega = pathlib.Path(sys.argv[1]).resolve()
     pages = [pathlib.Path(name).resolve() for name in sys.argv[2:]] or [TOP / "README.md", *sorted((TOP / "docs").glob("*.md"))]
-    wrong = sum(check(page, omega) for page in pages)
+    wrong, missing = sum(check(page, omega) for page in pages), missing_messages()
     print(f"{wrong} commands print something else" if wrong else "each command prints what stands beside it")
-    sys.exit(1 if wrong else 0)
+    sys.exit(1 if wrong or missing else 0)
 
 
 if __name__ == "__main__":
