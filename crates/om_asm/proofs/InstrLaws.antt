@@ -18,7 +18,7 @@ use Rattle.om_ring.specs.OptionSteps.{◌>>=◌}
 use Rattle.om_asm.specs.Spelt.{place_of, leg_of}
 use Rattle.om_ring.specs.Spelt.{decimal_below}
 use Rattle.om_asm.specs.BranchLists.{two_nodes, three_nodes, four_nodes}
-use Rattle.om_asm.specs.BranchEquality.{branches_same}
+use Rattle.om_asm.proofs.BranchEquality.{branches_same}
 use Rattle.om_asm.specs.Instrs.{sign_of, branches_of, third_of, fourth_of, joint_of, fuse_of, key_of, prop_of, load_of}
 use Rattle.om_asm.proofs.WordLaws.{bind_some, took, put, ended, place_law, number_law, leg_law, sign_law, IsLegNumber}
 
@@ -76,12 +76,6 @@ branches_found words y e =
     let b = took place_of place_word IsPlace place_law a.1 (λ b. third_of a.0 b.0 b.1) y a.4 in
     let t = third_found a.0 b.0 b.1 y a.3 b.3 b.4 in
     (a.2 ∙ ap (λ (ws : Words). place_word a.0 ∷ ws) b.2 ∙ t.0, t.1)
-
-two_again : (a b : ℕ) → IsPlace a → IsPlace b → branches_of (place_word a ∷ place_word b ∷ []) ≡ Some (two_nodes a b)
-unfolding branches_of
-two_again a b h i =
-    put place_of place_word IsPlace place_law a (place_word b ∷ []) (λ a. word_by place_of a.1 >>= λ b. third_of a.0 b.0 b.1) h
-    ∙ put place_of place_word IsPlace place_law b [] (λ b. third_of a b.0 b.1) i
 
 third_again : (a b c : ℕ) (ws : Words) → IsPlace c → third_of a b (place_word c ∷ ws) ≡ fourth_of a b c ws
 third_again a b c ws h = ap (λ (o : Option ℕ). o >>= λ c. fourth_of a b c ws) (place_law.again c h)

@@ -117,9 +117,6 @@ stop_loads version (Key flow minus vertex choice branches ∷ is) keys rest s k 
 abbrev read_to : List Instr → ℕ → List Words → Result (List Instr × At) BadLine
 read_to is number lines = Ok (is, place number lines)
 
-from_steps : List Instr → ℕ → List Words → Result (List Instr × At) BadLine
-from_steps loads number lines = behind loads (rows_from (λ _ w. is_step w) step_row (length loads) number lines) >>= λ steps. behind steps.0 (rows_from (λ _ w. is_key w) key_row (length steps.0) steps.1.number steps.1.lines)
-
 by_groups : (version number : ℕ) (loads steps keys : List Instr) (rest : List Words) → AreReadable version 0 loads → AreReadable version 1 steps → AreReadable version 2 keys → EndsInstrs rest
     → instrs_at version (place number (map (instr_words version) loads ++ (map (instr_words version) steps ++ (map (instr_words version) keys ++ rest)))) ≡ read_to ((loads ++ steps) ++ keys) (number + length loads + length steps + length keys) rest
 unfolding instrs_at

@@ -78,28 +78,36 @@ module _ (lines : List Words) where
     kind = (λ e. absurd cc, λ f. absurd (let g = form_group (first_line a.lines) f.form in let n = s.next f.form f.in_place in omega arith));
   }
 
-  -- past all lines that name fields
-  later : (group : ℕ) (a : At) (last : Words) (before : List Words) → 1 ≤ length before → lines ≡ before ++ last ∷ a.lines → a.number ≡ length before + 2 → group_of last ≤ group → 6 ≤ group_of last → Stands group a
-  later group a last before some e n low high = record {
-    before = before;
-    last = last;
-    some = some;
-    parts = e;
-    number = n;
+  -- a line that names fields and may stand here is of this group or a later one
+  abbrev MayFollow : ℕ → Words → Words → Type 0
+  MayFollow group last line = NamesFields line → group_of last ≤ group_of line → group ≤ group_of line
+
+  -- behind one line more
+  behind_line : (from group number : ℕ) (line : Words) (ls : List Words) → Stands from (place number (line ∷ ls)) → group_of line ≤ group → MayFollow group line (first_line ls) → Stands group (place (number + 1) ls)
+  behind_line from group number line ls s low next = record {
+    before = s.before ++ s.last ∷ [];
+    last = line;
+    some = omega (arith, length-append s.before (s.last ∷ []));
+    parts = s.parts ∙ sym (append_assoc s.before (s.last ∷ []) (line ∷ ls));
+    number = let n = s.number in let k = length-append s.before (s.last ∷ []) in omega arith;
     low = low;
-    next = λ f le. absurd (let g = form_group (first_line a.lines) f in omega arith);
+    next = next;
   }
 
-  pub skipped : (group : ℕ) (a : At) → Stands group a → 6 ≤ group → Stands (group + 1) a
-  skipped group a s high = record {
+  -- no line of the group stands here
+  past : (group : ℕ) (a : At) (s : Stands group a) → MayFollow (group + 1) s.last (first_line a.lines) → Stands (group + 1) a
+  past group a s next = record {
     before = s.before;
     last = s.last;
     some = s.some;
     parts = s.parts;
     number = s.number;
     low = let l = s.low in omega arith;
-    next = λ f le. absurd (let g = form_group (first_line a.lines) f in let n = s.next f le in omega arith);
+    next = next;
   }
+
+  pub skipped : (group : ℕ) (a : At) → Stands group a → 6 ≤ group → Stands (group + 1) a
+  skipped group a s high = past group a s (λ f le. absurd (let g = form_group (first_line a.lines) f in let n = s.next f le in omega arith))
 
   -- ---- rows of one kind
 
@@ -109,39 +117,16 @@ module _ (lines : List Words) where
     kept x k (Err e) h = h
 
     none_here : (number : ℕ) (ls : List Words) → first_line ls ≡ [] → Stands group (place number ls) → Stands (group + 1) (place number ls)
-    none_here number ls e s = record {
-      before = s.before;
-      last = s.last;
-      some = s.some;
-      parts = s.parts;
-      number = s.number;
-      low = let l = s.low in omega arith;
-      next = λ f le. absurd (no_words (subst NamesFields e f));
-    }
+    none_here number ls e s = past group (place number ls) s (λ f le. absurd (no_words (subst NamesFields e f)))
 
     other_here : IsGroup starts row_of group → (count number : ℕ) (w : List ℕ) (ws : Words) (ls : List Words) → starts count w ≡ false → Stands group (place number ((w ∷ ws) ∷ ls)) → Stands (group + 1) (place number ((w ∷ ws) ∷ ls))
-    other_here g count number w ws ls t s = record {
-      before = s.before;
-      last = s.last;
-      some = s.some;
-      parts = s.parts;
-      number = s.number;
-      low = let l = s.low in omega arith;
-      next = λ f le. let n = s.next f le in let d = g.stops_at count w ws t f in omega (arith, n, d);
-    }
+    other_here g count number w ws ls t s =
+        past group (place number ((w ∷ ws) ∷ ls)) s (λ f le. let n = s.next f le in let d = g.stops_at count w ws t f in omega (arith, n, d))
 
     row_passed : IsGroup starts row_of group → (count number : ℕ) (w : List ℕ) (ws : Words) (ls : List Words) → starts count w ≡ true → Stands group (place number ((w ∷ ws) ∷ ls)) → Stands group (place (number + 1) ls)
     row_passed g count number w ws ls t s =
         let same = g.starts_in count w t in
-        record {
-          before = s.before ++ s.last ∷ [];
-          last = w ∷ ws;
-          some = omega (arith, length-append s.before (s.last ∷ []));
-          parts = s.parts ∙ sym (append_assoc s.before (s.last ∷ []) ((w ∷ ws) ∷ ls));
-          number = let n = s.number in let l = length-append s.before (s.last ∷ []) in omega arith;
-          low = omega (arith, same);
-          next = λ f le. omega (arith, same);
-        }
+        behind_line group group number (w ∷ ws) ls s (omega (arith, same)) (λ f le. omega (arith, same))
 
     row_bad : IsGroup starts row_of group → (count number : ℕ) (w : List ℕ) (ws : Words) (ls : List Words) (kind : AsmKind) → starts count w ≡ true → row_of w ws ≡ Err kind → Stands group (place number ((w ∷ ws) ∷ ls)) → Judged (bad number kind)
     row_bad g count number w ws ls kind t e s =
@@ -180,8 +165,7 @@ module _ (lines : List Words) where
       by number l ls None e s = not_named group (place number (l ∷ ls)) s high
       by number l ls (Some x) e s =
           let g = of_group l x e in
-          later (group + 1) (place (number + 1) ls) l (s.before ++ s.last ∷ []) (omega (arith, length-append s.before (s.last ∷ []))) (s.parts ∙ sym (append_assoc s.before (s.last ∷ []) (l ∷ ls)))
-          (let n = s.number in let k = length-append s.before (s.last ∷ []) in omega arith) (omega (arith, g)) (omega (arith, g))
+          behind_line group (group + 1) number l ls s (omega (arith, g)) (λ f le. absurd (let h = form_group (first_line ls) f in omega (arith, g)))
 
       by_lines : (number : ℕ) (ls : List Words) → Stands group (place number ls) → Judges (group + 1) (one_line read (place number ls))
       by_lines number [] s = subst (λ (o : Option A). Judges (group + 1) (line_or_bad o (place number []))) (sym none) (not_named group (place number []) s high)

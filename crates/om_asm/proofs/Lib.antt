@@ -1,4 +1,5 @@
 pub mod AllLines
+pub mod BranchEquality
 pub mod FewRows
 pub mod FirstFields
 pub mod FirstBadLine

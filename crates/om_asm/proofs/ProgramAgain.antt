@@ -11,7 +11,7 @@ use Rattle.om_code.specs.declared.code.Den.{Den}
 use Rattle.om_code.specs.declared.code.Instr.{Instr}
 use Rattle.om_code.specs.declared.code.Code.{Code}
 use Rattle.om_code.specs.Plain.{IsPlain, IsPlainVertex, IsNamed, IsPlainFlow, IsPlainDen, registers_named}
-use Rattle.om_asm.specs.declared.reader.Process.{Process}
+use Rattle.om_asm.specs.declared.reader.ProcessLines.{ProcessLines}
 use Rattle.om_asm.specs.InRange.{ParticleInRange, VertexInRange, CodeInRange}
 use Rattle.om_io.specs.Lines.{Words}
 use Rattle.om_program_text.specs.ProgramText.{version_words, model_words, particle_words, vertex_words, leg_words, flow_words, den_words, slots_lines, instr_words, end_words, program_lines}
@@ -20,7 +20,7 @@ use Rattle.om_asm.specs.Heads.{version_of, model_name_of}
 use Rattle.om_asm.specs.Reading.{particle_row, leg_row, den_row}
 use Rattle.om_asm.specs.Vertices.{vertex_row}
 use Rattle.om_asm.specs.Flows.{flow_line}
-use Rattle.om_asm.specs.Rows.{BadLine, place, formed, instrs_at}
+use Rattle.om_asm.specs.Rows.{BadLine, place, formed}
 use Rattle.om_ring.specs.ResultSteps.{◌>>=◌}
 use Rattle.om_asm.specs.Program.{rows_at, end_at, process_at, slots_number, program_at}
 use Rattle.om_asm.proofs.RowLaws.{AllAgain, rows_again, Stops}
@@ -121,10 +121,10 @@ module _ (c : Code) where
   particles_stop : Stops few vertex_lines
   particles_stop = at_vertices few (λ _. refl) ps c.model.vertices leg_lines (at_legs few (λ _. refl) ps c.legs flow_lines (at_flows few (λ _. refl) c.flows den_lines (at_dens few (λ _. refl) ps c.dens slot_lines (at_slots few (record { loads = λ _. refl; fuses = λ _. refl; props = λ _. refl; keys = λ _. refl; ends = λ _. refl; slots = λ _. refl }) c.version c.slots c.instrs))))
 
-  abbrev a_process : List ℕ → List Flow → List Den → Process
+  abbrev a_process : List ℕ → List Flow → List Den → ProcessLines
   a_process legs flows dens = record { legs = legs; flows = flows; dens = dens }
 
-  abbrev the_process : Process
+  abbrev the_process : ProcessLines
   the_process = a_process c.legs c.flows c.dens
 
   process_again : (number : ℕ) (plain : IsPlain c) (range : CodeInRange c) → process_at ps (place number leg_lines) ≡ at_place the_process (number + length c.legs + length c.flows + length c.dens) slot_lines
@@ -136,9 +136,6 @@ module _ (c : Code) where
       ap (λ (r : Result (List ℕ × At) BadLine). r >>= λ legs. rows_at (codes "flow") (λ words. formed (flow_line words)) legs.1 >>= λ flows. rows_at (codes "den") (den_row ps) flows.1 >>= λ dens. at_place (a_process legs.0 flows.0 dens.0) dens.1.number dens.1.lines) l
       ∙ ap (λ (r : Result (List Flow × At) BadLine). r >>= λ flows. rows_at (codes "den") (den_row ps) flows.1 >>= λ dens. at_place (a_process c.legs flows.0 dens.0) dens.1.number dens.1.lines) f
       ∙ ap (λ (r : Result (List Den × At) BadLine). r >>= λ dens. at_place (a_process c.legs c.flows dens.0) dens.1.number dens.1.lines) d
-
-  ends_stop : (number : ℕ) → instrs_at c.version (place number instr_lines) ≡ instrs_at c.version (place number instr_lines)
-  ends_stop number = refl
 
   slots_same : (plain : IsPlain c) → slots_number c.version (slots_read c.version c.slots) c.instrs ≡ c.slots
   slots_same plain = by (eqb c.version 1) plain.slots
@@ -177,7 +174,7 @@ module _ (c : Code) where
       ∙ ap (λ (r : Result (List ℕ × At) BadLine). r >>= λ n. from_particles c.version n.0 n.1) n
       ∙ ap (λ (r : Result (List Particle × At) BadLine). r >>= λ q. from_vertices c.version c.model.name q.0 q.1) p
       ∙ ap (λ (r : Result (List Vertex × At) BadLine). r >>= λ vs. from_process c.version c.model.name ps vs.0 vs.1) w
-      ∙ ap (λ (r : Result (Process × At) BadLine). r >>= λ q. from_slots c.version c.model.name ps c.model.vertices q.0 q.1) (process_again number plain range)
+      ∙ ap (λ (r : Result (ProcessLines × At) BadLine). r >>= λ q. from_slots c.version c.model.name ps c.model.vertices q.0 q.1) (process_again number plain range)
       ∙ tail_again (number + length c.legs + length c.flows + length c.dens) plain range
 
   -- the lines of a plain code are read as the code

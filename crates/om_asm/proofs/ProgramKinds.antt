@@ -54,41 +54,35 @@ same_start w key t e = let g : true ≡ false = sym (bytes_same w key e) ∙ t i
 abbrev by_key : List ℕ → ℕ → List ℕ → Bool
 by_key key _ w = bytes_eq w key
 
-vertices_group : (ps : List Particle) → IsGroup (by_key (codes "vertex")) (λ _ words. vertex_row ps words) 2
-vertices_group ps = record {
-  starts_in = λ count w t. under_key w (codes "vertex") t;
-  stops_at = λ count w ws t f g. other w t (form_key (w ∷ ws) f) g;
-  kinds = λ count w ws kind t e. subst (λ (v : List ℕ). KindIs kind (v ∷ ws)) (sym (same_bytes w (codes "vertex") t)) (vertex_kind ps ws kind e);
+-- words that begin lines with names are one where their lines are of one group
+one_key : (w key : List ℕ) → NamesKey w → NamesKey key → group_of_word w ≡ group_of_word key → w ≡ key
+one_key w key (inl e) (inl f) g = e ∙ sym f
+one_key w key (inr (inl e)) (inr (inl f)) g = e ∙ sym f
+one_key w key (inr (inr e)) (inr (inr f)) g = e ∙ sym f
+one_key w key (inl e) (inr (inl f)) g = let a : group_of_word w ≡ 2 = ap group_of_word e in let b : group_of_word key ≡ 3 = ap group_of_word f in absurd (omega arith)
+one_key w key (inl e) (inr (inr f)) g = let a : group_of_word w ≡ 2 = ap group_of_word e in let b : group_of_word key ≡ 5 = ap group_of_word f in absurd (omega arith)
+one_key w key (inr (inl e)) (inl f) g = let a : group_of_word w ≡ 3 = ap group_of_word e in let b : group_of_word key ≡ 2 = ap group_of_word f in absurd (omega arith)
+one_key w key (inr (inl e)) (inr (inr f)) g = let a : group_of_word w ≡ 3 = ap group_of_word e in let b : group_of_word key ≡ 5 = ap group_of_word f in absurd (omega arith)
+one_key w key (inr (inr e)) (inl f) g = let a : group_of_word w ≡ 5 = ap group_of_word e in let b : group_of_word key ≡ 2 = ap group_of_word f in absurd (omega arith)
+one_key w key (inr (inr e)) (inr (inl f)) g = let a : group_of_word w ≡ 5 = ap group_of_word e in let b : group_of_word key ≡ 3 = ap group_of_word f in absurd (omega arith)
+
+-- a group whose lines name fields
+named_group : {A : Type 0} (key : List ℕ) → NamesKey key → (row_of : Words → Result A AsmKind) → ((ws : Words) (kind : AsmKind) → row_of ws ≡ Err kind → KindIs kind (key ∷ ws))
+    → IsGroup (by_key key) (λ _ words. row_of words) (group_of_word key)
+named_group key names row_of kind_of = record {
+  starts_in = λ count w t. under_key w key t;
+  stops_at = λ count w ws t f g. same_start w key t (one_key w key (form_key (w ∷ ws) f) names g);
+  kinds = λ count w ws kind t e. subst (λ (v : List ℕ). KindIs kind (v ∷ ws)) (sym (same_bytes w key t)) (kind_of ws kind e);
 }
-  where
-    other : (w : List ℕ) → bytes_eq w (codes "vertex") ≡ false → NamesKey w → group_of_word w ≡ 2 → ⊥
-    other w t (inl e) g = same_start w (codes "vertex") t e
-    other w t (inr (inl e)) g = let h : group_of_word w ≡ 3 = ap group_of_word e in omega arith
-    other w t (inr (inr e)) g = let h : group_of_word w ≡ 5 = ap group_of_word e in omega arith
+
+vertices_group : (ps : List Particle) → IsGroup (by_key (codes "vertex")) (λ _ words. vertex_row ps words) 2
+vertices_group ps = named_group (codes "vertex") (inl refl) (vertex_row ps) (vertex_kind ps)
 
 legs_group : (ps : List Particle) → IsGroup (by_key (codes "leg")) (λ _ words. leg_row ps words) 3
-legs_group ps = record {
-  starts_in = λ count w t. under_key w (codes "leg") t;
-  stops_at = λ count w ws t f g. other w t (form_key (w ∷ ws) f) g;
-  kinds = λ count w ws kind t e. subst (λ (v : List ℕ). KindIs kind (v ∷ ws)) (sym (same_bytes w (codes "leg") t)) (leg_kind ps ws kind e);
-}
-  where
-    other : (w : List ℕ) → bytes_eq w (codes "leg") ≡ false → NamesKey w → group_of_word w ≡ 3 → ⊥
-    other w t (inl e) g = let h : group_of_word w ≡ 2 = ap group_of_word e in omega arith
-    other w t (inr (inl e)) g = same_start w (codes "leg") t e
-    other w t (inr (inr e)) g = let h : group_of_word w ≡ 5 = ap group_of_word e in omega arith
+legs_group ps = named_group (codes "leg") (inr (inl refl)) (leg_row ps) (leg_kind ps)
 
 dens_group : (ps : List Particle) → IsGroup (by_key (codes "den")) (λ _ words. den_row ps words) 5
-dens_group ps = record {
-  starts_in = λ count w t. under_key w (codes "den") t;
-  stops_at = λ count w ws t f g. other w t (form_key (w ∷ ws) f) g;
-  kinds = λ count w ws kind t e. subst (λ (v : List ℕ). KindIs kind (v ∷ ws)) (sym (same_bytes w (codes "den") t)) (den_kind ps ws kind e);
-}
-  where
-    other : (w : List ℕ) → bytes_eq w (codes "den") ≡ false → NamesKey w → group_of_word w ≡ 5 → ⊥
-    other w t (inl e) g = let h : group_of_word w ≡ 2 = ap group_of_word e in omega arith
-    other w t (inr (inl e)) g = let h : group_of_word w ≡ 3 = ap group_of_word e in omega arith
-    other w t (inr (inr e)) g = same_start w (codes "den") t e
+dens_group ps = named_group (codes "den") (inr (inr refl)) (den_row ps) (den_kind ps)
 
 both_true : (a b : Bool) → (a && b) ≡ true → a ≡ true
 both_true true b e = refl

@@ -12,7 +12,7 @@ use Rattle.om_code.specs.declared.code.Instr.{Instr}
 use Rattle.om_code.specs.declared.code.Code.{Code}
 use Rattle.om_code.specs.Plain.{IsPlain, IsPlainVertex, IsNamed, IsPlainFlow, IsPlainDen, IsPlainInstr, InParts, AreSlots}
 use Rattle.om_asm.specs.declared.fault.AsmKind.TheVariants.{Grammar}
-use Rattle.om_asm.specs.declared.reader.Process.{Process}
+use Rattle.om_asm.specs.declared.reader.ProcessLines.{ProcessLines}
 use Rattle.om_io.specs.Lines.{Words}
 use Rattle.om_program_text.specs.ProgramText.{version_words, model_words, particle_words, vertex_words, leg_words, flow_words, den_words, slots_lines, instr_words, end_words, program_lines}
 use Rattle.om_asm.specs.Lines.{At}
@@ -87,24 +87,24 @@ seconds P Q (x ∷ xs) h = (h.0.1, seconds P Q xs h.1)
 pub behind_both : (lines a b middle rest : List Words) → lines ≡ a ++ middle → middle ≡ b ++ rest → lines ≡ (a ++ b) ++ rest
 behind_both lines a b middle rest e f = e ∙ ap (λ (ls : List Words). a ++ ls) f ∙ sym (append_assoc a b rest)
 
-record ProcessRead (ps : List Particle) (lines : List Words) (p : Process) (rest : List Words) : Type 0 where
+record ProcessRead (ps : List Particle) (lines : List Words) (p : ProcessLines) (rest : List Words) : Type 0 where
   texts : lines ≡ (map (leg_words ps) p.legs ++ map flow_words p.flows) ++ map (den_words ps) p.dens ++ rest
   legs : AllByRecursion (IsNamed ps) p.legs
   flows : AllByRecursion IsReadableFlow p.flows
   dens : AllByRecursion (ReadableDen ps) p.dens
 
-abbrev pub a_process : List ℕ → List Flow → List Den → Process
+abbrev pub a_process : List ℕ → List Flow → List Den → ProcessLines
 a_process legs flows dens = record { legs = legs; flows = flows; dens = dens }
 
-by_process : (ps : List Particle) (lines middle1 middle2 rest : List Words) (ls : List ℕ) (fs : List Flow) (ds : List Den) (y : Process × At) → (a_process ls fs ds, y.1) ≡ y → rest ≡ y.1.lines
+by_process : (ps : List Particle) (lines middle1 middle2 rest : List Words) (ls : List ℕ) (fs : List Flow) (ds : List Den) (y : ProcessLines × At) → (a_process ls fs ds, y.1) ≡ y → rest ≡ y.1.lines
     → lines ≡ map (leg_words ps) ls ++ middle1 → middle1 ≡ map flow_words fs ++ middle2 → middle2 ≡ map (den_words ps) ds ++ rest
     → AllByRecursion (IsNamed ps) ls → AllByRecursion IsReadableFlow fs → AllByRecursion (ReadableDen ps) ds → ProcessRead ps lines y.0 y.1.lines
 by_process ps lines middle1 middle2 rest ls fs ds y same here e f g hl hf hd =
     let two = behind_both lines (map (leg_words ps) ls) (map flow_words fs) middle1 middle2 e f in
     let three = behind_both lines (map (leg_words ps) ls ++ map flow_words fs) (map (den_words ps) ds) middle2 rest two g in
-    subst (λ (q : Process × At). ProcessRead ps lines q.0 y.1.lines) same (record { texts = three ∙ ap (λ (r : List Words). (map (leg_words ps) ls ++ map flow_words fs) ++ map (den_words ps) ds ++ r) here; legs = hl; flows = hf; dens = hd })
+    subst (λ (q : ProcessLines × At). ProcessRead ps lines q.0 y.1.lines) same (record { texts = three ∙ ap (λ (r : List Words). (map (leg_words ps) ls ++ map flow_words fs) ++ map (den_words ps) ds ++ r) here; legs = hl; flows = hf; dens = hd })
 
-process_found : (ps : List Particle) (a : At) (y : Process × At) → process_at ps a ≡ Ok y → ProcessRead ps a.lines y.0 y.1.lines
+process_found : (ps : List Particle) (a : At) (y : ProcessLines × At) → process_at ps a ≡ Ok y → ProcessRead ps a.lines y.0 y.1.lines
 unfolding process_at
 process_found ps a y e =
     let l = bind_ok (rows_at (codes "leg") (leg_row ps) a) (λ legs. rows_at (codes "flow") (λ words. formed (flow_line words)) legs.1 >>= λ flows. rows_at (codes "den") (den_row ps) flows.1 >>= λ dens. Ok (a_place (a_process legs.0 flows.0 dens.0) dens.1)) y e in
@@ -114,12 +114,12 @@ process_found ps a y e =
     let fs = rows_found (λ _ w. bytes_eq w (codes "flow")) (λ _ words. formed (flow_line words)) flow_words IsReadableFlow flows_law 0 l.0.1.number l.0.1.lines f.0.0 f.0.1 f.1 in
     let ds = rows_found (λ _ w. bytes_eq w (codes "den")) (λ _ words. den_row ps words) (den_words ps) (ReadableDen ps) (dens_law ps) 0 f.0.1.number f.0.1.lines d.0.0 d.0.1 d.1 in
     let same : a_place (a_process l.0.0 f.0.0 d.0.0) d.0.1 ≡ y = let h = d.2 in cc in
-    let here : d.0.1.lines ≡ y.1.lines = ap (λ (q : Process × At). q.1.lines) same in
-    by_process ps a.lines l.0.1.lines f.0.1.lines d.0.1.lines l.0.0 f.0.0 d.0.0 y (ap (λ (q : Process × At). (q.0, y.1)) same) here ls.parts fs.parts ds.parts ls.fit fs.fit ds.fit
+    let here : d.0.1.lines ≡ y.1.lines = ap (λ (q : ProcessLines × At). q.1.lines) same in
+    by_process ps a.lines l.0.1.lines f.0.1.lines d.0.1.lines l.0.0 f.0.0 d.0.0 y (ap (λ (q : ProcessLines × At). (q.0, y.1)) same) here ls.parts fs.parts ds.parts ls.fit fs.fit ds.fit
 
 -- ---- what follows the process
 
-abbrev pub a_code : ℕ → List ℕ → List Particle → List Vertex → Process → ℕ → List Instr → Code
+abbrev pub a_code : ℕ → List ℕ → List Particle → List Vertex → ProcessLines → ℕ → List Instr → Code
 a_code version name ps vs p slots is = record {
   version = version;
   model = record { name = name; particles = ps; vertices = vs };
@@ -130,10 +130,10 @@ a_code version name ps vs p slots is = record {
   instrs = is;
 }
 
-abbrev pub from_instrs : ℕ → List ℕ → List Particle → List Vertex → Process → ℕ → At → Result Code BadLine
+abbrev pub from_instrs : ℕ → List ℕ → List Particle → List Vertex → ProcessLines → ℕ → At → Result Code BadLine
 from_instrs version name ps vs p slots a = instrs_at version a >>= λ is. end_at is.1 >>= λ _. Ok (a_code version name ps vs p slots is.0)
 
-abbrev pub from_slots : ℕ → List ℕ → List Particle → List Vertex → Process → At → Result Code BadLine
+abbrev pub from_slots : ℕ → List ℕ → List Particle → List Vertex → ProcessLines → At → Result Code BadLine
 from_slots version name ps vs p a = slots_at version a >>= λ s. from_instrs version name ps vs p s.0 s.1
 
 abbrev ending : Bool → ℕ → Result (Unit {0}) BadLine
@@ -153,7 +153,7 @@ end_lines a x e =
     let l = line_found end_of b.0.0 a b.0.1 end_none b.1 in
     l.1 ∙ ap₂ (λ (v : Words) (vs : List Words). v ∷ vs) (end_found l.0 b.0.0 l.2) (nothing_behind b.0.1.lines b.0.1.number x b.2)
 
-record TailRead (version : ℕ) (name : List ℕ) (ps : List Particle) (vs : List Vertex) (p : Process) (lines : List Words) (c : Code) : Type 0 where
+record TailRead (version : ℕ) (name : List ℕ) (ps : List Particle) (vs : List Vertex) (p : ProcessLines) (lines : List Words) (c : Code) : Type 0 where
   slots : ℕ
   code : c ≡ a_code version name ps vs p slots c.instrs
   texts : lines ≡ (slots_lines version slots ++ map (instr_words version) c.instrs) ++ end_words ∷ []
@@ -162,7 +162,7 @@ record TailRead (version : ℕ) (name : List ℕ) (ps : List Particle) (vs : Lis
   range : AllByRecursion InstrInRange c.instrs
   order : InParts 0 c.instrs
 
-by_tail : (version : ℕ) (name : List ℕ) (ps : List Particle) (vs : List Vertex) (p : Process) (lines middle1 middle2 : List Words) (slots : ℕ) (is : List Instr) (c : Code) → a_code version name ps vs p slots is ≡ c
+by_tail : (version : ℕ) (name : List ℕ) (ps : List Particle) (vs : List Vertex) (p : ProcessLines) (lines middle1 middle2 : List Words) (slots : ℕ) (is : List Instr) (c : Code) → a_code version name ps vs p slots is ≡ c
     → lines ≡ slots_lines version slots ++ middle1 → IsSlotCount version slots → AreInstrs version middle1 is middle2 → middle2 ≡ end_words ∷ [] → TailRead version name ps vs p lines c
 by_tail version name ps vs p lines middle1 middle2 slots is c same e count f g =
     let two = behind_both lines (slots_lines version slots) (map (instr_words version) is) middle1 middle2 e f.parts in
@@ -175,7 +175,7 @@ good c = Ok c
 code_same : (x y : Code) → good x ≡ good y → x ≡ y
 code_same x y e = cc
 
-tail_found : (version : ℕ) (name : List ℕ) (ps : List Particle) (vs : List Vertex) (p : Process) (a : At) (c : Code) → from_slots version name ps vs p a ≡ Ok c → TailRead version name ps vs p a.lines c
+tail_found : (version : ℕ) (name : List ℕ) (ps : List Particle) (vs : List Vertex) (p : ProcessLines) (a : At) (c : Code) → from_slots version name ps vs p a ≡ Ok c → TailRead version name ps vs p a.lines c
 tail_found version name ps vs p a c e =
     let s = bind_ok (slots_at version a) (λ s. from_instrs version name ps vs p s.0 s.1) c e in
     let i = bind_ok (instrs_at version s.0.1) (λ is. end_at is.1 >>= λ _. Ok (a_code version name ps vs p s.0.0 is.0)) c s.2 in
@@ -233,7 +233,7 @@ from_name version a = one_line model_name_of a >>= λ n. from_particles version 
 abbrev two_versions : ℕ → Type 0
 two_versions v = (v ≡ 1) ⊎ (v ≡ 2)
 
-by_code : (version : ℕ) (name : List ℕ) (ps : List Particle) (vs : List Vertex) (p : Process) (slots : ℕ) (is : List Instr) (lines r0 r1 r2 r3 r4 : List Words) → two_versions version
+by_code : (version : ℕ) (name : List ℕ) (ps : List Particle) (vs : List Vertex) (p : ProcessLines) (slots : ℕ) (is : List Instr) (lines r0 r1 r2 r3 r4 : List Words) → two_versions version
     → lines ≡ version_words version ∷ r0 → r0 ≡ model_words name ∷ r1 → r1 ≡ map particle_words ps ++ r2 → r2 ≡ map (vertex_words ps) vs ++ r3 → ProcessRead ps r3 p r4
     → r4 ≡ (slots_lines version slots ++ map (instr_words version) is) ++ end_words ∷ []
     → is_name name ≡ true → AllByRecursion ReadableParticle ps → length ps ≤ MOST_PARTICLE_LINES → AllByRecursion (ReadableVertex ps) vs → IsSlotCount version slots → AllByRecursion (IsPlainInstr version) is → AllByRecursion InstrInRange is → InParts 0 is
@@ -266,7 +266,7 @@ by_code version name ps vs p slots is lines r0 r1 r2 r3 r4 two a b c d f g hn hp
       };
     }
 
-by_model : (version : ℕ) (name : List ℕ) (ps : List Particle) (vs : List Vertex) (p : Process) (lines r0 r1 r2 r3 r4 : List Words) (c : Code) → two_versions version
+by_model : (version : ℕ) (name : List ℕ) (ps : List Particle) (vs : List Vertex) (p : ProcessLines) (lines r0 r1 r2 r3 r4 : List Words) (c : Code) → two_versions version
     → lines ≡ version_words version ∷ r0 → r0 ≡ model_words name ∷ r1 → r1 ≡ map particle_words ps ++ r2 → r2 ≡ map (vertex_words ps) vs ++ r3 → ProcessRead ps r3 p r4 → TailRead version name ps vs p r4 c
     → is_name name ≡ true → AllByRecursion ReadableParticle ps → length ps ≤ MOST_PARTICLE_LINES → AllByRecursion (ReadableVertex ps) vs → ProgramRead lines c
 by_model version name ps vs p lines r0 r1 r2 r3 r4 c two a b d f g t hn hp few hv =

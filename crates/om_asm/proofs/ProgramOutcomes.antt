@@ -6,7 +6,7 @@ use Rattle.om_model.specs.declared.model.Particle.{Particle}
 use Rattle.om_model.specs.declared.model.Vertex.{Vertex}
 use Rattle.om_code.specs.declared.code.Code.{Code}
 use Rattle.om_asm.specs.declared.fault.AsmKind.TheVariants.{Grammar}
-use Rattle.om_asm.specs.declared.reader.Process.{Process}
+use Rattle.om_asm.specs.declared.reader.ProcessLines.{ProcessLines}
 use Rattle.om_io.specs.Lines.{Words}
 use Rattle.om_program_text.specs.ProgramText.{version_words, model_words, end_words}
 use Rattle.om_asm.specs.Lines.{At}
@@ -47,10 +47,10 @@ flows_outcome = rows_outcome (by_key (codes "flow")) (λ _ words. formed (flow_l
 dens_outcome : (ps : List Particle) → Outcomes (rows_at (codes "den") (den_row ps)) Ends Ends
 dens_outcome ps = rows_outcome (by_key (codes "den")) (λ _ words. den_row ps words) (record { slots = λ _. refl; ends = λ _. refl }) 0
 
-abbrev pub from_dens : List Particle → List ℕ → List Flow → At → Result (Process × At) BadLine
+abbrev pub from_dens : List Particle → List ℕ → List Flow → At → Result (ProcessLines × At) BadLine
 from_dens ps legs flows a = rows_at (codes "den") (den_row ps) a >>= λ dens. Ok (a_process legs flows dens.0, dens.1)
 
-abbrev pub from_flows : List Particle → List ℕ → At → Result (Process × At) BadLine
+abbrev pub from_flows : List Particle → List ℕ → At → Result (ProcessLines × At) BadLine
 from_flows ps legs a = rows_at (codes "flow") (λ words. formed (flow_line words)) a >>= λ flows. from_dens ps legs flows.0 flows.1
 
 process_outcome : (ps : List Particle) → Outcomes (process_at ps) Ends Ends
@@ -68,10 +68,10 @@ Anything ls = Unit {0}
 abbrev pub with_end : Code → At → Result (Code × At) BadLine
 with_end c a = one_line end_of a >>= λ e. Ok (c, e.1)
 
-abbrev pub from_instrs : ℕ → List ℕ → List Particle → List Vertex → Process → ℕ → At → Result (Code × At) BadLine
+abbrev pub from_instrs : ℕ → List ℕ → List Particle → List Vertex → ProcessLines → ℕ → At → Result (Code × At) BadLine
 from_instrs version name ps vs p slots a = instrs_at version a >>= λ is. with_end (a_code version name ps vs p slots is.0) is.1
 
-abbrev pub from_slots : ℕ → List ℕ → List Particle → List Vertex → Process → At → Result (Code × At) BadLine
+abbrev pub from_slots : ℕ → List ℕ → List Particle → List Vertex → ProcessLines → At → Result (Code × At) BadLine
 from_slots version name ps vs p a = slots_at version a >>= λ s. from_instrs version name ps vs p s.0 s.1
 
 abbrev pub from_process : ℕ → List ℕ → List Particle → List Vertex → At → Result (Code × At) BadLine
@@ -140,7 +140,7 @@ end_pushed c (Ok y) = by (eqb (length y.1.lines) 0)
     by true = refl
     by false = refl
 
-module _ (version : ℕ) (name : List ℕ) (ps : List Particle) (vs : List Vertex) (p : Process) where
+module _ (version : ℕ) (name : List ℕ) (ps : List Particle) (vs : List Vertex) (p : ProcessLines) where
   abbrev ends_instrs : ℕ → At → Result Code BadLine
   ends_instrs slots a = instrs_at version a >>= λ is. end_at is.1 >>= λ _. Ok (a_code version name ps vs p slots is.0)
 

@@ -17,10 +17,6 @@ module _ {A : Type 0} where
   listed_behind front None = None
   listed_behind front (Some xs) = Some (front ++ xs)
 
-  pub behind_none : (said : Option (List A)) → listed_behind [] said ≡ said
-  behind_none None = refl
-  behind_none (Some xs) = refl
-
   behind_both : (front : List A) (x : A) (said : Option (List A)) → listed_behind front (said >>= λ xs. Some (x ∷ xs)) ≡ listed_behind (front ++ x ∷ []) said
   behind_both front x None = refl
   behind_both front x (Some xs) = ap Some (sym (append_assoc front (x ∷ []) xs))

@@ -1,4 +1,3 @@
-pub mod BranchEquality
 pub mod BranchLists
 pub mod Fields
 pub mod FirstBad

@@ -10,7 +10,7 @@ use Rattle.om_asm.specs.declared.fault.AsmKind.{AsmKind}
 use Rattle.om_asm.specs.declared.fault.AsmKind.TheVariants.{Grammar}
 use Rattle.om_io.specs.Lines.{Words}
 use Rattle.om_asm.specs.Lines.{At, first_line, lines_of}
-use Rattle.om_asm.specs.declared.reader.Process.{Process}
+use Rattle.om_asm.specs.declared.reader.ProcessLines.{ProcessLines}
 use Rattle.om_asm.specs.Heads.{version_of, model_name_of, slots_of, end_of}
 use Rattle.om_asm.specs.Reading.{particle_row, leg_row, den_row}
 use Rattle.om_asm.specs.Vertices.{vertex_row}
@@ -47,7 +47,7 @@ end_at a = do
   e ← one_line end_of a
   if length e.1.lines == 0 then Ok tt else Err (bad e.1.number Grammar)
 
-unfoldable pub process_at : List Particle → At → Result (Process × At) BadLine
+unfoldable pub process_at : List Particle → At → Result (ProcessLines × At) BadLine
 process_at particles a = do
   legs ← rows_at (codes "leg") (leg_row particles) a
   flows ← rows_at (codes "flow") (λ words. formed (flow_line words)) legs.1

@@ -1,20 +1,20 @@
 //! The groups of lines that name particles, vertices, legs, flows and denominators.
-ghost use Rattle.std.specs.Prelude.{◌≡◌, ◌≤◌, IfOk, codes, length};
+ghost use Rattle.std.specs.Prelude.{◌≤◌, IfOk, codes, length};
 ghost use Rattle.std.specs.Str.{bytes_eq};
-ghost use Rattle.om_asm.specs.Rows.{Gives, GivesAt, formed};
+ghost use Rattle.om_asm.specs.Rows.{GivesAt, formed};
 ghost use Rattle.om_asm.specs.Reading.{particle_row, leg_row, den_row};
 ghost use Rattle.om_asm.specs.Vertices.{vertex_row};
 ghost use Rattle.om_asm.specs.Flows.{flow_line};
 ghost use Rattle.om_asm.specs.Program.{begins_particle, particles_at, rows_at};
 ghost use Rattle.om_code.specs.declared.code.TheConstants.{MOST_PARTICLE_LINES};
 
-use crate::fault::{AsmFault, AsmKind, LineFault};
+use crate::fault::{AsmFault, LineFault};
 use crate::field_lines::{read_den_line, read_leg_line};
 use crate::fields::Fields;
 use crate::flow_line::read_flow_line;
 use crate::lines::{Lines, Words};
 use crate::particle_line::read_particle_line;
-use crate::rows::{LineKind, read_list};
+use crate::rows::{LineKind, formed, read_list};
 use crate::vertex_line::read_vertex_line;
 use om_code::{Den, MOST_PARTICLE_LINES};
 use om_colour::Flow;
@@ -112,10 +112,7 @@ impl LineKind for Flows {
     }
 
     fn read(&self, _alloc: Global, _word: &[u8], words: Words) -> Result<Flow, LineFault> {
-        match read_flow_line(words) {
-            Some(flow) => Ok(flow),
-            None => Err(LineFault::Bad(AsmKind::Grammar)),
-        }
+        formed(read_flow_line(words))
     }
 }
 

@@ -1,5 +1,5 @@
 //! The lines that stand once: the version, the name of the model, the slots and the end.
-ghost use Rattle.std.specs.Prelude.{◌≡◌, ◌^◌, codes};
+ghost use Rattle.std.specs.Prelude.{◌≡◌, ◌^◌};
 ghost use Rattle.om_asm.specs.Lines.{Scans, word_by};
 ghost use Rattle.om_asm.specs.Spelt.{literal};
 ghost use Rattle.om_ring.specs.Spelt.{decimal_below};

@@ -1,11 +1,10 @@
 //! Reading the instructions of a program.
-ghost use Rattle.std.specs.Prelude.{◌≡◌};
-ghost use Rattle.om_asm.specs.Rows.{Gives, GivesAt, formed, instrs_at, is_fuse, is_key, is_load, is_step, key_row, load_row, step_row};
+ghost use Rattle.om_asm.specs.Rows.{GivesAt, instrs_at, is_key, is_load, is_step, key_row, load_row, step_row};
 
-use crate::fault::{AsmFault, AsmKind, LineFault};
+use crate::fault::{AsmFault, LineFault};
 use crate::instr_line::{read_fuse, read_key, read_load, read_prop};
 use crate::lines::{Lines, Words};
-use crate::rows::{LineKind, read_rows};
+use crate::rows::{LineKind, formed, read_rows};
 use om_code::Instr;
 use om_ring::List;
 use std::alloc::Global;
@@ -18,7 +17,7 @@ const PROP: &[u8] = b"prop";
 
 const KEY: &[u8] = b"key";
 
-/// The loads of a version.
+// The loads of a version.
 #[derive(Drop)]
 struct Loads {
     version: u8,
@@ -40,7 +39,7 @@ impl LineKind for Loads {
     }
 }
 
-/// The fuses and props.
+// The fuses and props.
 #[derive(Drop)]
 struct Steps;
 
@@ -64,7 +63,7 @@ impl LineKind for Steps {
     }
 }
 
-/// The keys.
+// The keys.
 #[derive(Drop)]
 struct Keys;
 
@@ -81,16 +80,6 @@ impl LineKind for Keys {
 
     fn read(&self, _alloc: Global, _word: &[u8], words: Words) -> Result<Instr, LineFault> {
         formed(read_key(words))
-    }
-}
-
-// What a line says that can only have the form or not.
-fn formed(instr: Option<Instr>) -> Result<Instr, LineFault>
-    ensures { Gives (formed instr) result }
-{
-    match instr {
-        Some(instr) => Ok(instr),
-        None => Err(LineFault::Bad(AsmKind::Grammar)),
     }
 }
 

@@ -1,5 +1,4 @@
 //! The lines of particles.
-ghost use Rattle.std.specs.Prelude.{◌≡◌};
 ghost use Rattle.om_asm.specs.Lines.{word_by};
 ghost use Rattle.om_asm.specs.Reading.{particle_row, product_of};
 ghost use Rattle.om_asm.specs.Rows.{Gives, TakesWord, formed};

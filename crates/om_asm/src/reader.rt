@@ -22,20 +22,20 @@ use std::alloc::Global;
 
 // The parts of a code between its model and its slots.
 #[derive(Drop)]
-struct Process {
+struct ProcessLines {
     legs: List<u16>,
     flows: List<Flow>,
     dens: List<Den>,
 }
 
 #[tactic(auto, unfolding(crate::specs::Program::process_at))]
-fn read_process(alloc: Global, fields: &Fields, lines: &mut Lines) -> Result<Process, AsmFault>
+fn read_process(alloc: Global, fields: &Fields, lines: &mut Lines) -> Result<ProcessLines, AsmFault>
     ensures { GivesAt (process_at fields.now lines.old) result lines.new }
 {
     let legs = read_legs(alloc, fields, lines)?;
     let flows = read_flows(alloc, lines)?;
     let dens = read_dens(alloc, fields, lines)?;
-    Ok(Process { legs, flows, dens })
+    Ok(ProcessLines { legs, flows, dens })
 }
 
 #[tactic(auto, unfolding(crate::specs::Program::program_at))]
@@ -49,7 +49,7 @@ fn read_program(alloc: Global, lines: &mut Lines) -> Result<Code, AsmFault>
         return Err(AsmFault::Memory);
     };
     let vertices = read_vertices(alloc, &fields, lines)?;
-    let Process { legs, flows, dens } = read_process(alloc, &fields, lines)?;
+    let ProcessLines { legs, flows, dens } = read_process(alloc, &fields, lines)?;
     drop(fields);
     let slots = read_slots(version, lines)?;
     let instrs = read_instrs(alloc, version, lines)?;

@@ -1,10 +1,10 @@
 //! Reading the lines of one kind, one after the other.
 ghost use Rattle.std.specs.Prelude.{◌≡◌, ℕ, List as ListOf, Bool as Test, Result as Answer, length};
 ghost use Rattle.om_io.specs.Lines.{Words as WordsOf};
-ghost use Rattle.om_asm.specs.Rows.{Gives, GivesAt, GivesMore, rows_from};
+ghost use Rattle.om_asm.specs.Rows.{Gives, GivesAt, GivesMore, formed, rows_from};
 ghost use Rattle.om_asm.specs.declared.fault.AsmKind.{AsmKind as Kind};
 
-use crate::fault::{AsmFault, LineFault};
+use crate::fault::{AsmFault, AsmKind, LineFault};
 use crate::lines::{Lines, Words};
 use om_ring::List;
 use std::alloc::Global;
@@ -26,6 +26,16 @@ pub(crate) trait LineKind {
     /// What a line says: its first word, and the others. A `Bad` has the kind of the line.
     fn read(&self, alloc: Global, word: &[u8], words: Words) -> Result<Self::Row, LineFault>
         ensures { Gives (row_of self.now word.now words.entry) result };
+}
+
+/// What a line says that can only have the form or not.
+pub(crate) fn formed<T>(said: Option<T>) -> Result<T, LineFault>
+    ensures { Gives (formed said) result }
+{
+    match said {
+        Some(said) => Ok(said),
+        None => Err(LineFault::Bad(AsmKind::Grammar)),
+    }
 }
 
 /// Appends what the lines of a kind say, up to the first line of another kind.

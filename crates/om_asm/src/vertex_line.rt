@@ -1,5 +1,5 @@
 //! Reading the lines of vertices.
-ghost use Rattle.std.specs.Prelude.{◌≡◌, ◌≤◌, ◌∷◌, ◌++◌, length, codes, Ok};
+ghost use Rattle.std.specs.Prelude.{◌≡◌, codes, Ok};
 ghost use Rattle.om_model.specs.Words.{structure_of_word};
 ghost use Rattle.om_asm.specs.Lines.{Scans, word_by};
 ghost use Rattle.om_asm.specs.Spelt.{literal};
@@ -22,7 +22,7 @@ use std::alloc::Global;
 
 const COLON: &[u8] = b":";
 
-/// The field of a slot, none where no particle has the name.
+// The field of a slot, none where no particle has the name.
 type Slot = Option<u16>;
 
 fn next_structure(words: &mut Words) -> Option<Structure>

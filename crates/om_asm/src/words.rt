@@ -1,5 +1,5 @@
 //! Reading the words of particles, sets and fields.
-ghost use Rattle.std.specs.Prelude.{◌≡◌, ◌≤◌, ◌==◌, length, Option as Maybe, List as ListOf};
+ghost use Rattle.std.specs.Prelude.{◌≡◌, ◌==◌};
 ghost use Rattle.om_model.specs.LegSetText.{leg_set_of_word};
 ghost use Rattle.om_model.specs.Words.{spin_of_word, colour_of_word};
 ghost use Rattle.om_asm.specs.Lines.{Scans, word_by};
