@@ -25,9 +25,6 @@ all_same (suc n) = ap (λ xs. zero ∷ xs) (all_same n)
 all_fields : (legs : ℕ) → map (λ (leg : Leg). leg.field) (sample_process legs).legs ≡ zero ∷ replicate (legs - 1) zero
 all_fields legs = ap (λ xs. zero ∷ xs) (all_same (legs - 1))
 
-kind_is : kind_of_field (sample_particle ∷ []) 0 ≡ a_scalar
-kind_is = refl
-
 all_scalar : (n : ℕ) → map (kind_of_field (sample_particle ∷ [])) (replicate n zero) ≡ replicate n a_scalar
 all_scalar zero = refl
 all_scalar (suc n) = ap (λ xs. a_scalar ∷ xs) (all_scalar n)

@@ -1,5 +1,5 @@
 //! The events of a sample.
-ghost use Rattle.std.specs.Prelude.{◌≡◌, ◌≤◌, ◌+◌, ◌*◌, ◌-◌, ℕ};
+ghost use Rattle.std.specs.Prelude.{◌≡◌, ◌≤◌, ◌+◌, ◌*◌, ◌-◌};
 ghost use Rattle.om_kernel.specs.declared.waves.Wave.TheVariants.{Scalar as a_scalar};
 ghost use Rattle.om_code.specs.Waves.{minus_four, zero_four};
 ghost use Rattle.om_code.specs.declared.code.Code.{Code};

@@ -1,5 +1,5 @@
 //! The generator.
-ghost use Rattle.std.specs.Prelude.{◌≡◌, ◌<◌, ◌^◌};
+ghost use Rattle.std.specs.Prelude.{◌≡◌, ◌<◌};
 ghost use Rattle.om_ring.specs.Ops.{number_of};
 ghost use Rattle.om_sample.specs.Generator.{draw, next_state};
 
@@ -22,7 +22,7 @@ impl Generator {
         self.state / DRAW_UNIT
     }
 
-    // The same, as an element of a ring.
+    /// The same, as an element of a ring.
     pub(crate) fn draw_element<R: Ring>(&mut self, ring: &R) -> R::E
         ensures value { result ≡ number_of (R.ops ring.now) (draw self.old.state 0) }
         ensures state { self.new.state ≡ next_state self.old.state }

@@ -1,7 +1,6 @@
 //! What the events of a sample sum up to.
-ghost use Rattle.std.specs.Prelude.{◌≡◌, ◌≤◌, ◌<◌, ◌+◌, ◌*◌, ◌^◌, ℕ, length, Some};
+ghost use Rattle.std.specs.Prelude.{◌≡◌, ◌≤◌, ◌<◌, ◌+◌, ◌*◌, ◌^◌, length, Some};
 ghost use Rattle.om_ring.specs.Sums.{sum_list};
-ghost use Rattle.om_code.specs.Meaning.{IsMeaning};
 ghost use Rattle.om_machine.specs.Bound.{part};
 ghost use Rattle.om_machine.specs.Events.{IsMadeFor};
 ghost use Rattle.om_machine.specs.Machines.{KeepsInverses, table_of};
