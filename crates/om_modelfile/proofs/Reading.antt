@@ -1,6 +1,6 @@
 -- A list that is read member by member, up to the first fault.
-use Rattle.std.proofs.Common.{◌≡◌, ℕ, ◌+◌, ◌<◌, ◌≤◌, List, [], ◌∷◌, ◌++◌, length, get_or, take, drop, map, Result, Ok, Err, refl, ap, sym, ◌∙◌, arith, add-zero}
-use Rattle.std.proofs.lemmas.List.{map_more, take-append-drop, take_all, drop_more, length-map, length-take, map-append}
+use Rattle.std.proofs.Common.{◌≡◌, ℕ, ◌+◌, ◌<◌, List, [], ◌∷◌, ◌++◌, length, get_or, take, drop, map, Result, Ok, Err, refl, ap, sym, ◌∙◌, arith, add-zero}
+use Rattle.std.proofs.lemmas.List.{map_more, take-append-drop, drop_more, length-map, length-take, map-append}
 use Rattle.om_ring.specs.ResultSteps.{◌>>=◌}
 use Rattle.om_modelfile.specs.Each.{each_from}
 

@@ -32,7 +32,7 @@ pub enum ModelFault {
     Memory,
 }
 
-// A fault of a row, before it is known where the row stands.
+/// A fault of a row, before it is known where the row stands.
 #[derive(Clone, Copy)]
 pub(crate) enum RowFault {
     MissingKey,
@@ -46,7 +46,7 @@ pub(crate) enum RowFault {
 }
 
 impl RowFault {
-    // The fault with its table and its row.
+    /// The fault with its table and its row.
     pub(crate) fn at_row(self, table: Table, row: u32) -> ModelFault
         ensures { result ≡ at_row table row self }
     {

@@ -12,7 +12,7 @@ use crate::fault::RowFault;
 use std::alloc::Global;
 use toml::{Table, Value};
 
-// Whether each key of the table is one of these.
+/// Whether each key of the table is one of these.
 #[tactic(auto, using(crate::proofs::KeysOf::knows_keys))]
 pub(crate) fn knows_all(table: &Table, keys: &[&str]) -> bool
     ensures { result ≡ knows_all_of (map (λ k. k.now) keys.now) (table_view table.now) }
@@ -32,7 +32,7 @@ fn is_among(known: &[&str], key: &str) -> bool
     known.iter().any(|known| key == *known)
 }
 
-// Whether each of these keys is in the table.
+/// Whether each of these keys is in the table.
 #[tactic(auto, using(crate::proofs::KeysOf::has_keys))]
 pub(crate) fn has_all(table: &Table, keys: &[&str]) -> bool
     ensures { result ≡ has_all_of (map (λ k. k.now) keys.now) (table_view table.now) }
@@ -71,7 +71,7 @@ fn values_of(value: &Value) -> Result<&[Value], RowFault>
     }
 }
 
-// The text at a key.
+/// The text at a key.
 pub(crate) fn text_at<'a>(table: &'a Table, key: &str) -> Result<&'a str, RowFault>
     ensures { Gives (λ s. s.now) result (text_at_of key.now (table_view table.now)) }
 {
@@ -81,7 +81,7 @@ pub(crate) fn text_at<'a>(table: &'a Table, key: &str) -> Result<&'a str, RowFau
     }
 }
 
-// The text at a key, or this one where the key is absent.
+/// The text at a key, or this one where the key is absent.
 pub(crate) fn text_or<'a>(absent: &'a str, table: &'a Table, key: &str) -> Result<&'a str, RowFault>
     ensures { Gives (λ s. s.now) result (text_or_of absent.now key.now (table_view table.now)) }
 {
@@ -91,7 +91,7 @@ pub(crate) fn text_or<'a>(absent: &'a str, table: &'a Table, key: &str) -> Resul
     }
 }
 
-// The number at a key, or this one where the key is absent.
+/// The number at a key, or this one where the key is absent.
 pub(crate) fn number_or(absent: i64, table: &Table, key: &str) -> Result<i64, RowFault>
     ensures { Gives (λ z. z) result (number_or_of absent key.now (table_view table.now)) }
 {
@@ -104,7 +104,7 @@ pub(crate) fn number_or(absent: i64, table: &Table, key: &str) -> Result<i64, Ro
     }
 }
 
-// The values of the array at a key.
+/// The values of the array at a key.
 pub(crate) fn values_at<'a>(table: &'a Table, key: &str) -> Result<&'a [Value], RowFault>
     ensures { Gives (λ vs. map view vs.now) result (values_at_of key.now (table_view table.now)) }
 {
@@ -114,7 +114,7 @@ pub(crate) fn values_at<'a>(table: &'a Table, key: &str) -> Result<&'a [Value], 
     }
 }
 
-// The values of the array at a key, or none where the key is absent.
+/// The values of the array at a key, or none where the key is absent.
 pub(crate) fn values_or_none<'a>(table: &'a Table, key: &str) -> Result<&'a [Value], RowFault>
     ensures { Gives (λ vs. map view vs.now) result (values_or_of [] key.now (table_view table.now)) }
 {
@@ -124,7 +124,7 @@ pub(crate) fn values_or_none<'a>(table: &'a Table, key: &str) -> Result<&'a [Val
     }
 }
 
-// The texts that values are.
+/// The texts that values are.
 pub(crate) fn texts_of(alloc: Global, values: &[Value]) -> Result<Vec<&str>, RowFault>
     ensures { Gives (λ texts. map (λ s. s.now) texts.items) result (texts_of_of (map view values.now)) }
 {

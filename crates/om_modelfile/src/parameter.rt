@@ -13,7 +13,7 @@ use toml::{Table, Value};
 
 const KEYS: [&str; 2] = ["name", "value"];
 
-// A name that stands for a numeral in products.
+/// A name that stands for a numeral in products.
 #[derive(Drop)]
 pub(crate) struct Parameter {
     pub(crate) name: Name,
@@ -26,7 +26,7 @@ struct ParameterTexts<'a> {
     value: &'a str,
 }
 
-// The parameter that a row says.
+/// The parameter that a row says.
 #[tactic(auto, unfolding(crate::specs::Parameters::parameter_of))]
 pub(crate) fn read_parameter(row: &Value) -> Result<Parameter, RowFault>
     ensures { Gives (λ parameter. parameter) result (parameter_of (view row.now)) }

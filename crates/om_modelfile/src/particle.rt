@@ -29,7 +29,7 @@ struct ParticleTexts<'a> {
     colour: Colour,
 }
 
-// The particle that a row says.
+/// The particle that a row says.
 #[tactic(auto, unfolding(crate::specs::Particles::particle_of))]
 pub(crate) fn read_particle(
     alloc: Global,

@@ -13,7 +13,7 @@ use om_model::limits::MOST_NUMERALS;
 use om_ring::{List, Numeral};
 use std::alloc::Global;
 
-// The product that a text says: numerals and names of parameters, with stars between them.
+/// The product that a text says: numerals and names of parameters, with stars between them.
 #[tactic(auto, unfolding(crate::specs::Products::product_of))]
 pub(crate) fn read_product(
     alloc: Global,

@@ -1,5 +1,5 @@
 //! A model out of the bytes of its file.
-ghost use Rattle.std.specs.Prelude.{◌≡◌, ◌+◌, ◌*◌, ◌≤◌, IfOk, length, ok_or};
+ghost use Rattle.std.specs.Prelude.{◌+◌, ◌*◌, ◌≤◌, IfOk, length, ok_or};
 ghost use Rattle.toml.specs.View.{table_view};
 ghost use Rattle.om_modelfile.specs.Faults.{Answers, Gives};
 ghost use Rattle.om_modelfile.specs.ModelOf.{SaysModel, document_of, form_of, form_of_document, rows_read, top_of};

@@ -19,11 +19,11 @@ use om_ring::List;
 use std::alloc::Global;
 use toml::Value;
 
-// A kind of rows, with what the names in them refer to.
+/// A kind of rows, with what the names in them refer to.
 pub(crate) trait RowKind {
     type Row: Drop;
 
-    // What a row says.
+    /// What a row says.
     ghost row_of: { Self → Data → Result Self.Row RowFault };
 
     fn read(&self, alloc: Global, row: &Value) -> Result<Self::Row, RowFault>
@@ -75,7 +75,7 @@ impl RowKind for VertexRows<'_> {
     }
 }
 
-// What the rows of a table say, counted from 1, up to the first fault.
+/// What the rows of a table say, counted from 1, up to the first fault.
 pub(crate) fn read_rows<K: RowKind>(
     alloc: Global,
     kind: &K,

@@ -30,7 +30,7 @@ struct VertexTexts<'a> {
     order: i64,
 }
 
-// The vertex that a row says.
+/// The vertex that a row says.
 #[tactic(auto, unfolding(crate::specs::Vertices::vertex_of))]
 pub(crate) fn read_vertex(
     alloc: Global,
