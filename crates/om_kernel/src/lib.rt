@@ -19,7 +19,7 @@ pub mod vertices;
 pub mod waves;
 
 pub use edges::propagate;
-pub use vectors::plus_four;
+pub use vectors::{dot, lower_difference, plain_dot, plus_four};
 pub use vertices::{close, fuse};
 pub use waves::{Place, Places, Slots, Wave};
 

@@ -25,7 +25,7 @@ fn space_dot<R: Ring<Mark = L>, L>(
 
 /// p0 q0 - p1 q1 - p2 q2 - p3 q3.
 #[inline(always)]
-pub(crate) fn dot<R: Ring<Mark = L>, L>(
+pub fn dot<R: Ring<Mark = L>, L>(
     ring: &R,
     p: &Four<R::E>,
     q: &Four<R::E>,
@@ -41,7 +41,7 @@ pub(crate) fn dot<R: Ring<Mark = L>, L>(
 
 /// The sum of the products of the components, for an index that stands above once and below once.
 #[inline(always)]
-pub(crate) fn plain_dot<R: Ring<Mark = L>, L>(
+pub fn plain_dot<R: Ring<Mark = L>, L>(
     ring: &R,
     p: &Four<R::E>,
     q: &Four<R::E>,
@@ -84,7 +84,7 @@ fn minus<R: Ring<Mark = L>, L>(ring: &R, x: R::E, y: R::E, steps: &mut Steps<L>)
 
 /// p - q with its index lowered: the space components are turned round in place of a sign.
 #[inline(always)]
-pub(crate) fn lower_difference<R: Ring<Mark = L>, L>(
+pub fn lower_difference<R: Ring<Mark = L>, L>(
     ring: &R,
     p: &Four<R::E>,
     q: &Four<R::E>,

@@ -23,6 +23,13 @@ pub mod LoadedRows
 pub mod TableMeaning
 pub mod EventWaves
 pub mod BlockLoop
+pub mod SumLoop
+pub mod PartsAnswer
+pub mod SumWalk
+pub mod PartedLoop
+pub mod AddedVectors
+pub mod SumSteps
+pub mod PartedSteps
 pub mod BlockTerms
 pub mod BlockSteps
 pub mod BlockAnswer

@@ -4,6 +4,9 @@ pub mod Decoded
 pub mod Momenta
 pub mod Loaded
 pub mod Blocks
+pub mod FlowSums
+pub mod Additions
+pub mod Summing
 pub mod Rows
 pub mod Bound
 pub mod Damping

@@ -1,7 +1,7 @@
 //! What the waves of an event are multiplied with on the inner edges.
 //!
 //! All denominators are inverted together: the product of all is inverted once, and gives each inverse by two products.
-ghost use Rattle.std.specs.Prelude.{◌≡◌, ℕ, ◌+◌, ◌*◌, ◌≤◌, [], length, MatchOption};
+ghost use Rattle.std.specs.Prelude.{◌≡◌, ◌+◌, ◌*◌, ◌≤◌, [], length, MatchOption};
 ghost use Rattle.om_code.specs.Meaning.{IsFirstPole};
 ghost use Rattle.om_machine.specs.declared.sets.TheConstants.{SETS};
 ghost use Rattle.om_machine.specs.Momenta.{AreDenominators, AreEdges, AreProducts, HoldsEdgeMomenta, product_before, table_from};

@@ -5,6 +5,7 @@
 //! `evaluate` walks over the blocks, and calls the kernels for all other steps; it takes no memory.
 #![tactic(auto)]
 
+mod additions;
 mod answer;
 mod block;
 mod blocking;
@@ -13,19 +14,23 @@ mod decoding;
 mod edges;
 mod event;
 mod filling;
+mod flow_sums;
 mod inverses;
+mod kept_products;
 pub mod laws;
 mod loading;
 mod machine;
 mod momenta;
 mod numbers;
 mod prepared;
+mod products;
 mod reads;
 mod rows;
 mod run;
 mod sets;
 mod slots;
 mod step;
+mod summing;
 mod terms;
 mod vectors;
 

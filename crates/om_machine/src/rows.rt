@@ -1,5 +1,5 @@
 //! The numbers of the rows of a code's model.
-ghost use Rattle.std.specs.Prelude.{◌≡◌, ◌≢◌, ℕ, ◌+◌, ◌*◌, ◌≤◌, length, None, slice_get, MatchOption, MatchResult};
+ghost use Rattle.std.specs.Prelude.{◌≡◌, ◌≢◌, ◌+◌, ◌*◌, ◌≤◌, length, None, slice_get, MatchOption, MatchResult};
 ghost use Rattle.om_lorentz.specs.declared.structures.Spin.TheVariants.{Vector};
 ghost use Rattle.om_lorentz.specs.Propagators.{MassAgrees};
 ghost use Rattle.om_model.specs.Rules.{HasFactorWithoutValue, HasLength, HasLengths, HasNoInverse};

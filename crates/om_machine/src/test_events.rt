@@ -8,12 +8,12 @@ use crate::Event;
 use om_code::Code;
 use om_kernel::Wave;
 use om_lorentz::Four;
-use om_ring::{Elem, Ring, Zp};
+use om_ring::{Elem, Zp};
 use std::alloc::Global;
 use std::process::Abort;
 use std::test::Fail;
 
-// What enters through a leg: the momentum has a time alone, and the wave is 1, or 1 at one index of a spinor.
+/// What enters through a leg: the momentum has a time alone, and the wave is 1, or 1 at one index of a spinor.
 #[derive(Clone, Copy, Debug)]
 pub(crate) enum Entry {
     One,
@@ -68,7 +68,7 @@ fn put(rt: &impl Abort, code: &Code, event: &mut Event<Elem>, k: u8, leg: Leg)
     event.set(k, four(0, Zp.number(leg.time)), new);
 }
 
-// The event of four legs, or of five.
+/// The event of four legs, or of five.
 pub(crate) fn event(
     rt: &impl Abort,
     alloc: Global,

@@ -68,7 +68,7 @@ pub(crate) fn listed<T: Copy>(alloc: Global, all: &[T]) -> Option<List<T>> {
     Some(list)
 }
 
-// One real scalar that meets itself.
+/// One real scalar that meets itself.
 pub(crate) fn scalar_model(alloc: Global, bad: usize) -> Option<Model> {
     let mut particles = List::new(alloc);
     push_particle(
@@ -93,7 +93,7 @@ pub(crate) fn scalar_model(alloc: Global, bad: usize) -> Option<Model> {
     })
 }
 
-// Electrons, muons and photons.
+/// Electrons, muons and photons.
 pub(crate) fn muon_model(alloc: Global, bad: usize) -> Option<Model> {
     let mut particles = List::new(alloc);
     push_particle(

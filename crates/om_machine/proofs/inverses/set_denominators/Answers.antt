@@ -1,4 +1,4 @@
-use Rattle.std.proofs.Common.{◌≡◌, ◌<◌, [], length, arith, ap, ◌∙◌}
+use Rattle.std.proofs.Common.{◌<◌, [], length, arith, ap, ◌∙◌}
 use Rattle.std.proofs.Math.ListN.{length-set}
 use Rattle.om_code.proofs.FirstRow.{row-at}
 use Rattle.om_machine.specs.Momenta.{table_from}

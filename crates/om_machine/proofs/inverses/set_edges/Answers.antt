@@ -1,4 +1,4 @@
-use Rattle.std.proofs.Common.{◌≡◌, ◌≤◌, ◌<◌, ◌*◌, ◌+◌, ℕ, List, length, Some, arith, ap, sym, ◌∙◌}
+use Rattle.std.proofs.Common.{◌≡◌, ◌*◌, length, arith, ap, sym, ◌∙◌}
 use Rattle.om_ring.specs.Ops.{laws_from}
 use Rattle.om_machine.specs.Momenta.{product_before}
 use Rattle.om_machine.proofs.Inverting.{inverse-is, once, some-dens}

@@ -1,8 +1,6 @@
-use Rattle.std.proofs.Common.{◌≡◌, ◌<◌, [], length, refl, arith, ap, sym, ◌∙◌}
-use Rattle.std.specs.Prelude.{slice_index_or}
+use Rattle.std.proofs.Common.{◌<◌, [], length, refl, arith, ap, sym, ◌∙◌}
 use Rattle.std.proofs.Math.ListN.{length-set}
 use Rattle.std.proofs.lemmas.List.{get_or_read_under}
-use Rattle.om_code.specs.Meaning.{denominator_of}
 use Rattle.om_machine.specs.Momenta.{row_of_masses, table_from}
 use Rattle.om_machine.proofs.MomentumSums.{edges-more, first-pole}
 use Rattle.om_machine.proofs.inverses.set_one_by_one.Goals as goal

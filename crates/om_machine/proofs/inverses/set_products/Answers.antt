@@ -1,4 +1,4 @@
-use Rattle.std.proofs.Common.{◌≡◌, ◌<◌, length, refl, arith, ap, ◌∙◌}
+use Rattle.std.proofs.Common.{◌<◌, length, refl, arith, ap, ◌∙◌}
 use Rattle.std.proofs.Math.ListN.{length-set}
 use Rattle.std.proofs.lemmas.List.{get_or_read_under}
 use Rattle.om_machine.proofs.Inverting.{product-more, products-more}

@@ -1,4 +1,4 @@
-use Rattle.std.proofs.Common.{◌≡◌, ◌++◌, ◌∷◌, [], ◌+◌, ◌*◌, length, ◌<◌, ◌≤◌, arith, sym, ◌∙◌, ap, subst}
+use Rattle.std.proofs.Common.{◌+◌, arith, sym, subst}
 use Rattle.om_machine.specs.Rows.{HaveFactors}
 use Rattle.om_machine.proofs.FactorRows.{few-factors, has-values, more-factors, more-sound}
 use Rattle.om_machine.proofs.rows.load_factors.Goals as goal

@@ -1,4 +1,4 @@
-use Rattle.std.proofs.Common.{◌≡◌, ◌++◌, ◌∷◌, [], ◌+◌, ◌*◌, length, arith, sym, ◌∙◌, ap, subst}
+use Rattle.std.proofs.Common.{◌+◌, arith, sym, subst}
 use Rattle.om_ring.specs.Ops.{laws_from}
 use Rattle.om_machine.specs.Rows.{HaveMasses}
 use Rattle.om_machine.proofs.MassRows.{has-inverses, more-before, more-masses}
