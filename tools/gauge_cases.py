@@ -53,7 +53,7 @@ def main():
     print("//! Gauge invariance, exactly: with the momentum of a photon or gluon in place of its wave function each flow is 0, with a generic one it isn't.")
     print("//! Written by tools/gauge_cases.py; the numbers are those of another program.")
     print("use super::case::{Case, FOUR, check_case};\nuse std::test::Fail;\n")
-    print(f"/// The standard model, `models/sm.toml` in short.\nconst STANDARD_MODEL: &str =\n    {literal(text)};\n")
+    print(f"// The standard model, `models/sm.toml` in short.\nconst STANDARD_MODEL: &str =\n    {literal(text)};\n")
     print("const CASES: &[Case] = &[")
     for process, leg in CHECKS:
         generic, pure_gauge = event(process), event(process, leg)

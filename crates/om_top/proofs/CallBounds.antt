@@ -47,9 +47,6 @@ module _ {E : Type 0} (o : Ops E) (file : Side) where
   pub loaded_code : (c : Code) → (holds : HoldsProgram o file c) → rows_calls c.model ≡ program_calls holds.0
   loaded_code c (bytes, held, is_file) = loads_code bytes c is_file.says.reads
 
-  pub file_called : (m : Model) → HoldsModel o file m → FileMayCall file (rows_calls m)
-  file_called m holds = (holds.0, holds.1, loaded m holds)
-
 -- a program was loaded from the bytes of a file, or wasn't
 module _ {E : Type 0} (o : Ops E) (file : Side) (bytes : List ℕ) (held : Holds file bytes) where
   pub program_called : (result : Result (LoadedCode E) Ending) → ReadsProgram o bytes result → (before now cost : ℕ) → now ≤ before + program_calls bytes * cost

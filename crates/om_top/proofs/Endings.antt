@@ -1,7 +1,6 @@
 -- The forms that what a command leaves has, and the endings that come with each.
-use Rattle.std.proofs.Common.{◌≡◌, ◌≢◌, ℕ, false, List, [], ◌∷◌, Some, refl, arith, inl, inr}
+use Rattle.std.proofs.Common.{◌≡◌, ◌≢◌, ℕ, false, List, [], ◌∷◌, Some, refl, arith}
 use Rattle.om_ring.specs.Ops.{Ops}
-use Rattle.om_ring.specs.Members.{In}
 use Rattle.om_model.specs.declared.model.Model.{Model}
 use Rattle.om_model.specs.declared.process.Process.{Process}
 use Rattle.om_graph.specs.declared.Graph.{Graph}
@@ -23,15 +22,7 @@ use Rattle.om_top.specs.Streamed.{HasNoAmplitude, Streamed, UnlessNone}
 use Rattle.om_top.specs.declared.ending.Ending.{Ending}
 use Rattle.om_top.specs.declared.ending.Ending.TheVariants.{Done, ProcessFault, GraphTooLarge, EventFault, InputFault, OutFault}
 
--- the statuses of the endings that aren't quiet
-pub own_status : (e : Ending) → is_quiet e ≡ false → In (status_of e) (0 ∷ 6 ∷ 7 ∷ 8 ∷ [])
-own_status Done h = inl refl
-own_status (EventFault fault) h = inr (inl refl)
-own_status InputFault h = inr (inr (inl refl))
-own_status OutFault h = inr (inr (inr (inl refl)))
-own_status e h = cc
-
--- not one of them
+-- no status of an ending that isn't quiet
 abbrev pub NotOwn : ℕ → Type 0
 NotOwn n = (0 ≢ n) × (6 ≢ n) × (7 ≢ n) × (8 ≢ n)
 

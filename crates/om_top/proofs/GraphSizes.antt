@@ -1,5 +1,5 @@
 -- How many nodes, terms and flows a canonical graph has.
-use Rattle.std.proofs.Common.{◌≡◌, ℕ, zero, suc, ◌+◌, ◌<◌, ◌≤◌, ◌⊎◌, inl, inr, ⊎_elim, List, [], ◌∷◌, ◌++◌, length, map, Bool, true, false, not, Option, Some, refl, ap, ap₂, sym, subst, ◌∙◌, arith}
+use Rattle.std.proofs.Common.{◌≡◌, ℕ, zero, suc, ◌+◌, ◌<◌, ◌≤◌, ◌⊎◌, inl, inr, ⊎_elim, List, [], ◌∷◌, ◌++◌, length, map, Bool, true, false, not, Some, refl, ap, ap₂, sym, subst, ◌∙◌, arith}
 use Rattle.std.specs.Prelude.{slice_get}
 use Rattle.std.specs.List.{filter}
 use Rattle.std.proofs.lemmas.Bool.{cases_lt}
@@ -24,7 +24,7 @@ use Rattle.om_graph.specs.declared.Key.{Key}
 use Rattle.om_graph.specs.declared.KeyTerm.{KeyTerm}
 use Rattle.om_graph.specs.declared.Term.{Term}
 use Rattle.om_graph.specs.Graph.{Numbered, at_numbers, numbered_lt}
-use Rattle.om_graph.specs.Possible.{IsPossible, flow_lt, key_lt, nodes_at, term_count, unsigned, unsigned_key}
+use Rattle.om_graph.specs.Possible.{IsPossible, flow_lt, key_lt, term_count, unsigned, unsigned_key}
 use Rattle.om_graph.specs.Reactions.{reaction_of}
 use Rattle.om_graph.specs.Vertices.{Reaction, fusion}
 use Rattle.om_graph.proofs.HaveReactions.{well_formed_have_reactions}
@@ -138,13 +138,12 @@ module _ (m : Model) (p : Process) (formed : IsWellFormed m) (is : IsProcessOf m
   abbrev r : Reaction
   r = reaction_of m p
 
-  -- a term or keystone term by number that stands in another graph
-  record Matches {M : Type 0} (ms : List M) (us : List Numbered) (made : Option M) (branches : Option (List Key)) (vertex choice : ℕ) (x : Numbered) : Type 0 where
-    among : In x us
-    its_made : slice_get ms x.made ≡ made
-    its_vertex : x.vertex ≡ vertex
-    its_choice : x.choice ≡ choice
-    its_branches : at_numbers g.nodes x.branches ≡ branches
+  -- a term or keystone term and one of another graph are the same, by what their numbers stand for
+  record IsSame {M : Type 0} (ms others : List M) (nodes : List Key) (x y : Numbered) : Type 0 where
+    its_made : slice_get ms x.made ≡ slice_get others y.made
+    its_vertex : x.vertex ≡ y.vertex
+    its_choice : x.choice ≡ y.choice
+    its_branches : at_numbers g.nodes x.branches ≡ at_numbers nodes y.branches
 
   same_numbered : (x y : Numbered) → x.made ≡ y.made → x.vertex ≡ y.vertex → x.choice ≡ y.choice → x.branches ≡ y.branches → x ≡ y
   same_numbered x y a b c d =
@@ -156,62 +155,45 @@ module _ (m : Model) (p : Process) (formed : IsWellFormed m) (is : IsProcessOf m
   same_nodes is js ks us e f q =
       at_once key_lt key_order g.nodes canonical.graph.nodes_rise (at_of g.nodes is ks e) (subst (At g.nodes js) (same_Some us ks (sym f ∙ sym q ∙ e)) (at_of g.nodes js us f))
 
-  term_once : (x z : Numbered) (made : Option Key) (branches : Option (List Key)) (vertex choice : ℕ) → Matches g.nodes (map unsigned g.terms) made branches vertex choice x → Matches g.nodes (map unsigned g.terms) made branches vertex choice z → x ≡ z
-  term_once x z made branches vertex choice a b =
-      let u = (canonical.graph.terms x).0 a.among in
-      let w = (canonical.graph.terms z).0 b.among in
-      same_numbered x z
-      (number_once key_lt key_order g.nodes canonical.graph.nodes_rise x.made z.made w.node (a.its_made ∙ sym b.its_made ∙ w.is_node) w.is_node)
-      (a.its_vertex ∙ sym b.its_vertex) (a.its_choice ∙ sym b.its_choice)
-      (same_nodes x.branches z.branches u.branches w.branches u.are_branches w.are_branches (a.its_branches ∙ sym b.its_branches))
+  -- terms or keystone terms, whose numbers stand for members of `ms` and for nodes
+  module _ {M T : Type 0} (lt : M → M → Bool) (order : IsOrder lt) (ms : List M) (rise : Rising lt ms) (numbered : T → Numbered) (ts : List T)
+      (known : (x : Numbered) → In x (map numbered ts) → (made : M) × (slice_get ms x.made ≡ Some made) × (ks : List Key) × (at_numbers g.nodes x.branches ≡ Some ks)) (others : List M) (nodes : List Key) where
+    once : (x z y : Numbered) → In x (map numbered ts) → In z (map numbered ts) → IsSame ms others nodes x y → IsSame ms others nodes z y → x ≡ z
+    once x z y i j a b =
+        let u = known x i in
+        let w = known z j in
+        same_numbered x z
+        (number_once lt order ms rise x.made z.made w.0 (a.its_made ∙ sym b.its_made ∙ w.1) w.1)
+        (a.its_vertex ∙ sym b.its_vertex) (a.its_choice ∙ sym b.its_choice)
+        (same_nodes x.branches z.branches u.2 w.2 u.3 w.3 (a.its_branches ∙ sym b.its_branches))
 
-  key_once : (x z : Numbered) (made : Option Flow) (branches : Option (List Key)) (vertex choice : ℕ) → Matches g.flows (map unsigned_key g.keys) made branches vertex choice x → Matches g.flows (map unsigned_key g.keys) made branches vertex choice z → x ≡ z
-  key_once x z made branches vertex choice a b =
-      let u = (canonical.graph.keys x).0 a.among in
-      let w = (canonical.graph.keys z).0 b.among in
-      same_numbered x z
-      (number_once flow_lt flow_order g.flows canonical.graph.flows_rise x.made z.made w.flow (a.its_made ∙ sym b.its_made ∙ w.is_flow) w.is_flow)
-      (a.its_vertex ∙ sym b.its_vertex) (a.its_choice ∙ sym b.its_choice)
-      (same_nodes x.branches z.branches u.branches w.branches u.are_branches w.are_branches (a.its_branches ∙ sym b.its_branches))
+    -- where each is one of the other graph, they are no more than those there
+    fewer : (us : List T) → Rising numbered_lt (map numbered ts) → ((t : T) → In t ts → (s : T) × In s us × IsSame ms others nodes (numbered t) (numbered s)) → length ts ≤ length us
+    fewer us rises found =
+        let R : Numbered → T → Type 0 = λ x y. In x (map numbered ts) × IsSame ms others nodes x (numbered y) in
+        let few = few_images R (map numbered ts) us (λ x z y a b. once x z (numbered y) a.0 b.0 a.1 b.1)
+        (rising_different numbered_lt numbered_order.irreflexive (map numbered ts) rises)
+        (λ x i.
+        let t = in_mapped numbered x ts i in
+        let s = found t.0 t.1 in
+        subst (λ (z : Numbered). HasImage R z us) (sym t.2) (record { image = s.0; among = s.1; is = (subst (λ (z : Numbered). In z (map numbered ts)) t.2 i, s.2) })) in
+        let e = length-map ts numbered in
+        omega (arith, few, e)
 
   module _ (whole : Graph) (possible : IsPossible (reaction_of m p) whole) where
-    TermIs : Numbered → Term → Type 0
-    TermIs x y = Matches g.nodes (map unsigned g.terms) (slice_get whole.nodes y.node) (at_numbers whole.nodes (nodes_at y.branches)) y.vertex y.choice x
-
-    KeyIs : Numbered → KeyTerm → Type 0
-    KeyIs x y = Matches g.flows (map unsigned_key g.keys) (slice_get whole.flows y.flow) (at_numbers whole.nodes (nodes_at y.branches)) y.vertex y.choice x
-
     fewer_terms : length g.terms ≤ length whole.terms
-    unfolding TermIs
     fewer_terms =
         let part = canonical_is_part_of_possible m p formed is g canonical whole possible in
-        let few = few_images TermIs (map unsigned g.terms) whole.terms
-        (λ x z y a b. term_once x z (slice_get whole.nodes y.node) (at_numbers whole.nodes (nodes_at y.branches)) y.vertex y.choice a b)
-        (rising_different numbered_lt numbered_order.irreflexive (map unsigned g.terms) canonical.graph.terms_rise)
-        (λ x i. let t = in_mapped unsigned x g.terms i in let s = part.terms t.0 t.1 in
-        subst (λ (z : Numbered). HasImage TermIs z whole.terms) (sym t.2) (record {
-          image = s.term;
-          among = s.is_term;
-          is = record { among = subst (λ (z : Numbered). In z (map unsigned g.terms)) t.2 i; its_made = s.node; its_vertex = s.vertex; its_choice = s.choice; its_branches = s.branches };
-        })) in
-        let e = length-map g.terms unsigned in
-        omega (arith, few, e)
+        fewer key_lt key_order g.nodes canonical.graph.nodes_rise unsigned g.terms (λ x i. let u = (canonical.graph.terms x).0 i in (u.node, u.is_node, u.branches, u.are_branches)) whole.nodes whole.nodes
+        whole.terms canonical.graph.terms_rise
+        (λ t i. let s = part.terms t i in (s.term, s.is_term, record { its_made = s.node; its_vertex = s.vertex; its_choice = s.choice; its_branches = s.branches }))
 
     fewer_keys : length g.keys ≤ length whole.keys
-    unfolding KeyIs
     fewer_keys =
         let part = canonical_is_part_of_possible m p formed is g canonical whole possible in
-        let few = few_images KeyIs (map unsigned_key g.keys) whole.keys
-        (λ x z y a b. key_once x z (slice_get whole.flows y.flow) (at_numbers whole.nodes (nodes_at y.branches)) y.vertex y.choice a b)
-        (rising_different numbered_lt numbered_order.irreflexive (map unsigned_key g.keys) canonical.graph.keys_rise)
-        (λ x i. let t = in_mapped unsigned_key x g.keys i in let s = part.keys t.0 t.1 in
-        subst (λ (z : Numbered). HasImage KeyIs z whole.keys) (sym t.2) (record {
-          image = s.key;
-          among = s.is_key;
-          is = record { among = subst (λ (z : Numbered). In z (map unsigned_key g.keys)) t.2 i; its_made = s.flow; its_vertex = s.vertex; its_choice = s.choice; its_branches = s.branches };
-        })) in
-        let e = length-map g.keys unsigned_key in
-        omega (arith, few, e)
+        fewer flow_lt flow_order g.flows canonical.graph.flows_rise unsigned_key g.keys (λ x i. let u = (canonical.graph.keys x).0 i in (u.flow, u.is_flow, u.branches, u.are_branches)) whole.flows whole.nodes
+        whole.keys canonical.graph.keys_rise
+        (λ t i. let s = part.keys t i in (s.key, s.is_key, record { its_made = s.flow; its_vertex = s.vertex; its_choice = s.choice; its_branches = s.branches }))
 
     -- the canonical graph has no more terms and keystone terms than the possible one
     pub few_terms : length g.terms + length g.keys ≤ term_count whole

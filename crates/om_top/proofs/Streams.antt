@@ -34,9 +34,6 @@ behind answered es = record { events = answered ++ es.events; ending = es.ending
 behind_more : {E : Type 0} (answered : List (Legs E)) (legs : Legs E) (es : Events E) → behind answered (with_event legs es) ≡ behind (answered ++ legs ∷ []) es
 behind_more {E} answered legs es = ap (λ (l : List (Legs E)). let r : Events E = record { events = l; ending = es.ending } in r) (sym (append_assoc answered (legs ∷ []) es.events))
 
-behind_ends : {E : Type 0} (answered : List (Legs E)) (e : Ended) → (behind answered (ends e)).events ≡ answered
-behind_ends answered e = append-nil answered
-
 module _ {E : Type 0} (Owes : ℕ → Legs E → List ℕ → Type 0) where
   -- the lines of one event more
   pub lines_more : (e n : ℕ) (answered : List (Legs E)) (legs : Legs E) (text line : List ℕ) → n ≡ e + length answered → Lines Owes e answered text → Owes n legs line

@@ -1,18 +1,16 @@
 -- The lines of the flows of an answer, written one by one.
-use Rattle.std.proofs.Common.{◌≡◌, ℕ, zero, suc, ◌+◌, ◌<◌, ◌≤◌, List, [], ◌∷◌, length, get_or, take, flat_map, Option, Some, refl, ap, sym, ◌∙◌, arith, append-nil}
+use Rattle.std.proofs.Common.{◌≡◌, ℕ, zero, suc, ◌+◌, ◌<◌, ◌≤◌, List, [], ◌∷◌, length, get_or, take, flat_map, Some, ap, sym, ◌∙◌, arith}
 use Rattle.std.specs.Prelude.{slice_get, slice_index_or}
 use Rattle.std.proofs.lemmas.Option.{slice_get-get_or}
 use Rattle.std.proofs.lemmas.List.{take_all}
 use Rattle.std.proofs.lemmas.List.Folds.{flat_map-map}
 use Rattle.om_code.specs.declared.code.Code.{Code}
 use Rattle.om_colour.specs.declared.Flow.{Flow}
-use Rattle.om_io.specs.Bytes.{after_told, AppendsPrefix}
-use Rattle.om_io.specs.Causes.{Rose}
 use Rattle.om_model.specs.Answer.Answer.{values}
 use Rattle.om_model.specs.declared.model.Model.{Model}
 use Rattle.om_emit.specs.EmittedAnswer.{with_sums}
-use Rattle.om_io.specs.Writing.{Outlet, Takes, Breaks, outlet}
-use Rattle.om_io.proofs.Outlets.{all_written, prefix_written, row_breaks, row_more}
+use Rattle.om_io.specs.Writing.{Outlet, Takes, Breaks}
+use Rattle.om_io.proofs.Outlets.{row_breaks, row_more}
 use Rattle.om_top.specs.AnswerText.{answer_line, answer_text, pair_line, value_text}
 
 -- the flows of a code
@@ -63,7 +61,3 @@ module _ {E : Type 0} (show : E → List ℕ) (m : Model) (e : ℕ) (items flows
     -- a line that broke off
     pub line_breaks : (a b c : Outlet) → Takes a b (flat_map (pair_line show e) (take k rows)) → Breaks b c line → Breaks a c (flat_map (pair_line show e) rows)
     line_breaks a b c p q = row_breaks (pair_line show e) rows a b c k (w.ends, x) (w.ends, x) here.within (sym (here.pair (w.ends, x))) p (rw is at q)
-
--- an answer with one line
-pub one_text : (e : ℕ) (line text : List ℕ) → line ≡ answer_line e text → line ≡ flat_map (answer_line e) (text ∷ [])
-one_text e line text h = h ∙ sym (append-nil (answer_line e text))

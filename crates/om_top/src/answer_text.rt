@@ -52,7 +52,7 @@ pub(crate) fn write_answer<R: Ring, O: Sink>(
     }
 }
 
-/// Writes a line for each flow.
+// Writes a line for each flow.
 fn write_values<R: Ring, O: Sink>(
     ring: &R,
     machine: &Machine<R::E>,
@@ -106,7 +106,7 @@ fn write_value<R: Ring, O: Sink>(
     Ok(())
 }
 
-/// Appends the line of a flow.
+// Appends the line of a flow.
 fn push_value<R: Ring>(ring: &R, number: u32, flow: &Flow, value: R::E, line: &mut Line)
     requires { length line.old + ROOM_BYTES ≤ LINE_BYTES }
     ensures { line.new ≡ line.old ++ pair_line (R.text ring.now) number (flow.now.ends, value) }
@@ -118,7 +118,7 @@ fn push_value<R: Ring>(ring: &R, number: u32, flow: &Flow, value: R::E, line: &m
     line.push(b"\n");
 }
 
-/// Appends the line of a denominator without inverse.
+// Appends the line of a denominator without inverse.
 fn push_pole(code: &Code, number: u32, legs: LegSet, field: u16, line: &mut Line)
     requires { line.old ≡ [] }
     ensures { let d : DenOf = record { legs = legs; field = field } in line.new ≡ answer_line number (pole_line code.now.model (edge_of_den d)) }
@@ -131,7 +131,7 @@ fn push_pole(code: &Code, number: u32, legs: LegSet, field: u16, line: &mut Line
     line.push(b"\n");
 }
 
-/// Appends the line of an event whose momenta don't add up to zero.
+// Appends the line of an event whose momenta don't add up to zero.
 fn push_unbalanced(number: u32, line: &mut Line)
     requires { line.old ≡ [] }
     ensures { line.new ≡ answer_line number (codes "unbalanced") }
@@ -140,7 +140,7 @@ fn push_unbalanced(number: u32, line: &mut Line)
     line.push(b"unbalanced\n");
 }
 
-/// Appends the number of an event and a space.
+// Appends the number of an event and a space.
 fn push_start(number: u32, line: &mut Line)
     requires { length line.old + ROOM_BYTES ≤ LINE_BYTES }
     ensures value { line.new ≡ line.old ++ (decimal number ++ codes " ") }

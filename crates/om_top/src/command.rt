@@ -36,7 +36,7 @@ pub(crate) fn command_of(words: &[String]) -> Command<'_>
     }
 }
 
-/// The command with the name of a file alone.
+// The command with the name of a file alone.
 fn command_of_file<'a>(word: &str, file: &'a str) -> Command<'a>
     ensures { command_of_file word.now file.now ≡ asked result }
 {
@@ -49,7 +49,7 @@ fn command_of_file<'a>(word: &str, file: &'a str) -> Command<'a>
     }
 }
 
-/// The command with two words.
+// The command with two words.
 fn command_of_two<'a>(word: &str, first: &'a str, second: &'a str) -> Command<'a>
     ensures { command_of_two word.now first.now second.now ≡ asked result }
 {
@@ -66,7 +66,7 @@ fn command_of_two<'a>(word: &str, first: &'a str, second: &'a str) -> Command<'a
     }
 }
 
-/// The sample of a seed and a number of legs.
+// The sample of a seed and a number of legs.
 fn sample_of<'a>(seed: &[u8], legs: &[u8]) -> Command<'a>
     ensures { sample_of seed.now legs.now ≡ asked result }
 {

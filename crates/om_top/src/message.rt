@@ -9,7 +9,7 @@ use om_graph::MOST_TERMS;
 use om_io::{Sink, write_all};
 use om_ring::Line;
 
-/// Appends the line of an ending with its line feed; nothing for `Done`.
+// Appends the line of an ending with its line feed; nothing for `Done`.
 fn push_message(ending: Ending, line: &mut Line)
     requires { line.old ≡ [] }
     ensures { line.new ≡ message_of ending }
@@ -51,7 +51,7 @@ fn push_message(ending: Ending, line: &mut Line)
     }
 }
 
-/// Appends the usage line.
+// Appends the usage line.
 fn push_usage(line: &mut Line)
     requires { line.old ≡ [] }
     ensures { line.new ≡ message_of Ending.Usage }

@@ -40,7 +40,7 @@ pub(crate) fn answer_events<R: Ring<Mark = L>, S: Source, O: Sink, L>(
     stream(ring, machine, &mut event, input, out, steps)
 }
 
-/// Answers one event after the other, up to the end of the input, the first bad line or the first fault.
+// Answers one event after the other, up to the end of the input, the first bad line or the first fault.
 fn stream<R: Ring<Mark = L>, S: Source, O: Sink, L>(
     ring: &R,
     machine: &mut Machine<R::E>,
@@ -73,7 +73,7 @@ fn stream<R: Ring<Mark = L>, S: Source, O: Sink, L>(
     }
 }
 
-/// How the run ends, unless an event came.
+// How the run ends, unless an event came.
 fn ending_of(next: Next) -> Option<Ending>
     ensures { result ≡ ending_of next }
 {

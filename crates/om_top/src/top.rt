@@ -52,7 +52,7 @@ pub fn run<R: Ring<Mark = L>, F: Folder, S: Source, O: Sink, E: Sink, L>(
     status(ending)
 }
 
-/// Does what the words ask for.
+// Does what the words ask for.
 fn perform<R: Ring<Mark = L>, F: Folder, S: Source, O: Sink, L>(
     alloc: Global,
     ring: &R,

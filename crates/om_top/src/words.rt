@@ -20,7 +20,7 @@ pub fn within_limits(words: &[String]) -> bool
     words.len() < WORD_LIMIT && are_short(words)
 }
 
-/// Whether each word is short enough.
+// Whether each word is short enough.
 fn are_short(words: &[String]) -> bool
     ensures { IsTrue result ↔ All (λ w. length (string_bytes w) < WORD_LIMIT) words.now }
 {

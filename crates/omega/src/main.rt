@@ -7,8 +7,8 @@ use std::process::ExitCode;
 use std::rt::Env;
 use std::{env, io};
 
-/// Hands the words, the machine's files and its three streams to the top call, and ends with its status. The status is 1 where
-/// the system refuses the words.
+// Hands the words, the machine's files and its three streams to the top call, and ends with its status. The status is 1 where
+// the system refuses the words.
 fn main(rt: HostRuntime) -> ExitCode {
     let Ok(words) = words(&rt) else {
         return ExitCode::from(1);
@@ -31,7 +31,7 @@ fn main(rt: HostRuntime) -> ExitCode {
     ))
 }
 
-/// The words after the program's name.
+// The words after the program's name.
 fn words<R: Env + AllocGlobal>(rt: &R) -> io::Result<Vec<String>> {
     let mut words = Vec::new(rt.alloc());
     for word in env::args(rt)?.skip(1) {

@@ -33,7 +33,7 @@ pub(crate) fn check<R: Ring<Mark = L>, F: Folder, O: Sink, L>(
     write_text(out, line.bytes())
 }
 
-/// Appends the line that `check` writes.
+// Appends the line that `check` writes.
 fn push_check(model: &Model, line: &mut Line)
     requires { line.old ≡ [] }
     ensures { line.new ≡ check_text model.now }

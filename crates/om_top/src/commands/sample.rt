@@ -1,5 +1,5 @@
 //! `sample` evaluates events that are drawn.
-ghost use Rattle.std.specs.Prelude.{◌≡◌, ℕ, ◌+◌, ◌*◌, ◌≤◌, IfOk};
+ghost use Rattle.std.specs.Prelude.{ℕ, ◌+◌, ◌*◌, ◌≤◌, IfOk};
 ghost use Rattle.om_legs.specs.declared.leg_set.TheConstants.{MOST_LEGS};
 ghost use Rattle.om_model.specs.declared.limits.TheConstants.{FEWEST_LEGS};
 ghost use Rattle.om_sample.specs.Model.{sample_model};
@@ -41,7 +41,7 @@ pub(crate) fn sample<R: Ring<Mark = L>, O: Sink, L>(
     }
 }
 
-/// What the events of a sample sum up to.
+// What the events of a sample sum up to.
 fn sums_of_sample<R: Ring<Mark = L>, L>(
     alloc: Global,
     ring: &R,
@@ -65,7 +65,7 @@ fn sums_of_sample<R: Ring<Mark = L>, L>(
     Ok(sum_sample(ring, &mut machine, &mut event, seed, steps))
 }
 
-/// The machine of the code of a sample's process.
+// The machine of the code of a sample's process.
 fn load_sample<R: Ring<Mark = L>, L>(
     alloc: Global,
     ring: &R,

@@ -31,7 +31,7 @@ pub(crate) fn push_model_fault(fault: ModelFault, line: &mut Line)
     }
 }
 
-/// Appends a name with the table and the row that it speaks of.
+// Appends a name with the table and the row that it speaks of.
 fn push_placed(name: &[u8], table: Table, row: u32, line: &mut Line)
     requires { length line.old + length name.now ≤ 300 }
     ensures text { line.new ≡ line.old ++ placed name.now table row }
@@ -69,7 +69,7 @@ fn rule_name(rule: ModelRule) -> &'static [u8]
     }
 }
 
-/// The name of why a text is no numeral; that of a bad byte has no place.
+// The name of why a text is no numeral; that of a bad byte has no place.
 fn cause_name(cause: NumeralFault) -> &'static [u8]
     ensures name { result.now ≡ cause_name_of cause }
     ensures short { length result.now ≤ 7 }

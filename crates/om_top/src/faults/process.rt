@@ -23,7 +23,7 @@ pub(crate) fn push_process_fault(fault: ProcessFault, line: &mut Line)
     }
 }
 
-/// Appends a name with the byte of a text that it speaks of.
+// Appends a name with the byte of a text that it speaks of.
 fn push_at_byte(name: &[u8], place: usize, line: &mut Line)
     requires { length line.old + length name.now ≤ 300 }
     ensures text { line.new ≡ line.old ++ at_byte name.now place }

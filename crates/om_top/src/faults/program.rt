@@ -30,7 +30,7 @@ pub(crate) fn push_program_fault(fault: ProgramFault, line: &mut Line)
     }
 }
 
-/// Appends the number of a line and what is wrong with it.
+// Appends the number of a line and what is wrong with it.
 fn push_at_line(number: u32, name: &[u8], line: &mut Line)
     requires { length line.old + length name.now ≤ 300 }
     ensures text { line.new ≡ line.old ++ at_line number name.now }

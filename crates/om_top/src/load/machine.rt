@@ -1,5 +1,5 @@
 //! The machine of a graph.
-ghost use Rattle.std.specs.Prelude.{◌≡◌, ◌+◌, ◌*◌, ◌≤◌, ℕ, IfOk, IfErr};
+ghost use Rattle.std.specs.Prelude.{◌≡◌, ◌+◌, ◌*◌, ◌≤◌, IfOk, IfErr};
 ghost use Rattle.om_model.specs.ProcessOf.{IsProcessOf};
 ghost use Rattle.om_model.specs.Rules.{IsAccepted};
 ghost use Rattle.om_graph.specs.Reactions.{reaction_of};

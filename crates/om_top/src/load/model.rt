@@ -34,7 +34,7 @@ pub(crate) fn load_model<R: Ring<Mark = L>, F: Folder, L>(
     }
 }
 
-/// The model of which these bytes are the file. Where there is none, the answer is how the run ends.
+// The model of which these bytes are the file. Where there is none, the answer is how the run ends.
 fn model_of<R: Ring<Mark = L>, L>(
     alloc: Global,
     ring: &R,

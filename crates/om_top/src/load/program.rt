@@ -38,7 +38,7 @@ pub(crate) fn load_program<R: Ring<Mark = L>, F: Folder, L>(
     }
 }
 
-/// The machine of the program that some bytes are. Where there is none, the answer is how the run ends.
+// The machine of the program that some bytes are. Where there is none, the answer is how the run ends.
 fn machine_of<R: Ring<Mark = L>, L>(
     alloc: Global,
     ring: &R,
@@ -63,7 +63,7 @@ fn machine_of<R: Ring<Mark = L>, L>(
     }
 }
 
-/// The verified code whose text some bytes are. Where there is none, the answer is how the run ends.
+// The verified code whose text some bytes are. Where there is none, the answer is how the run ends.
 fn verified_code(alloc: Global, bytes: &[u8]) -> Result<Verified, Ending>
     requires { length bytes.now ≤ MOST_PROGRAM_BYTES }
     ensures { ReadsCode bytes.now result }

@@ -1,5 +1,5 @@
 //! What a run counts is what the calls that it is made of count together.
-ghost use Rattle.std.specs.Prelude.{◌<◌, length, IfOk};
+ghost use Rattle.std.specs.Prelude.{◌<◌, IfOk};
 ghost use Rattle.om_ring.specs.ZpOps.{zp};
 ghost use Rattle.om_model.specs.ProcessOf.{IsProcessOf};
 ghost use Rattle.om_model.specs.Rules.{IsAccepted};

@@ -3,7 +3,7 @@ use super::case::{Case, FOUR, check_case};
 use super::models::{MASSIVE, QED, SPIM, VSS};
 use std::test::Fail;
 
-/// What stands in a model. The input isn't read.
+// What stands in a model. The input isn't read.
 const CHECK: Case = Case {
     words: &["check", "model.toml"],
     read_fails: 1,
@@ -11,7 +11,7 @@ const CHECK: Case = Case {
     ..FOUR
 };
 
-/// A model that is refused.
+// A model that is refused.
 const NO_MODEL: Case = Case {
     status: 3,
     out: "",

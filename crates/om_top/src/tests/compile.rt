@@ -6,7 +6,7 @@ use std::alloc::Global;
 use std::process::Abort;
 use std::test::Fail;
 
-/// Two real scalars to two. Nothing is read from the input.
+// Two real scalars to two. Nothing is read from the input.
 const SCALARS: Case = Case {
     words: &["compile", "model.toml", "phi phi -> phi phi"],
     read_fails: 1,
@@ -60,7 +60,7 @@ fn compile(rt: HostRuntime) -> Result<(), Fail> {
     Ok(())
 }
 
-/// Two electrons to three photons.
+// Two electrons to three photons.
 const PHOTONS: Case = Case {
     words: &["eval", "model.toml", "e- e+ -> A A A"],
     input: "1 1 0 0 0 1 2 3 4\n2 1 2 0 0 5 6 7 8\n3 2 1 3 0 1 0 2 0\n4 3 0 1 5 0 3 0 4\n5 -7 -3 -4 -5 1 1 2 3\n",
@@ -68,19 +68,19 @@ const PHOTONS: Case = Case {
     ..FOUR
 };
 
-/// What a run leaves that has to go well.
+// What a run leaves that has to go well.
 fn written(rt: &impl Abort, alloc: Global, case: &Case, file: &[u8]) -> Result<Vec<u8>, Fail> {
     let left = left_by(rt, alloc, case, Some(file.to_vec(alloc)?))?;
     assert_eq!(rt; left.status, 0);
     Ok(left.out.bytes().to_vec(alloc)?)
 }
 
-/// Whether a text has these bytes in it.
+// Whether a text has these bytes in it.
 fn has(text: &[u8], part: &[u8]) -> bool {
     (0..text.len()).any(|k| text[k..].starts_with(part))
 }
 
-/// A program in which a slot is used again, and which gives the answers that it was compiled for.
+// A program in which a slot is used again, and which gives the answers that it was compiled for.
 #[test]
 fn slots_used_again(rt: HostRuntime) -> Result<(), Fail> {
     let compile = Case {

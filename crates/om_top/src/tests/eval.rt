@@ -3,7 +3,7 @@ use super::case::{Case, FOUR, check_case};
 use super::models::{CS, PHI3M, PHI34, QCD, QED, SZ, YUK};
 use std::test::Fail;
 
-/// One particle to two.
+// One particle to two.
 const THREE: Case = Case {
     words: &["eval", "model.toml", "phi -> phi phi"],
     input: "1 1 0 0 0 1\n2 1 0 0 0 1\n3 -2 0 0 0 1\n",

@@ -3,7 +3,7 @@ use super::case::{Case, FOUR, check_case};
 use super::models::MASSIVE;
 use std::test::Fail;
 
-/// A process that is refused.
+// A process that is refused.
 const NO_PROCESS: Case = Case {
     read_fails: 1,
     status: 4,
@@ -11,7 +11,7 @@ const NO_PROCESS: Case = Case {
     ..FOUR
 };
 
-/// An input that is refused.
+// An input that is refused.
 const NO_EVENT: Case = Case {
     status: 6,
     out: "",

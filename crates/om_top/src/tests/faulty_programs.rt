@@ -7,8 +7,8 @@ use std::alloc::Global;
 use std::process::Abort;
 use std::test::Fail;
 
-/// A program, the number of a line of it, from 1, how many lines are left out from there on, the text in their place, and what
-/// `run` says.
+// A program, the number of a line of it, from 1, how many lines are left out from there on, the text in their place, and what
+// `run` says.
 type Changed = (&'static str, usize, usize, &'static str, &'static str);
 
 const CHANGED: &[Changed] = &[
@@ -161,7 +161,7 @@ const CHANGED: &[Changed] = &[
     ),
 ];
 
-/// The bytes of a changed program.
+// The bytes of a changed program.
 fn bytes_of(alloc: Global, changed: &Changed) -> Result<Vec<u8>, Fail> {
     let (program, first, lines, text, _) = *changed;
     let mut bytes = Vec::new(alloc);
@@ -176,7 +176,7 @@ fn bytes_of(alloc: Global, changed: &Changed) -> Result<Vec<u8>, Fail> {
     Ok(bytes)
 }
 
-/// A program with so many particles and nothing else.
+// A program with so many particles and nothing else.
 fn with_particles(alloc: Global, count: u64) -> Result<Vec<u8>, Fail> {
     let mut bytes = Vec::new(alloc);
     bytes.extend_from_slice(b"omega 2\nmodel many\n")?;
@@ -193,7 +193,7 @@ fn with_particles(alloc: Global, count: u64) -> Result<Vec<u8>, Fail> {
     Ok(bytes)
 }
 
-/// `run` refuses the program so.
+// `run` refuses the program so.
 fn check_refused(
     rt: &impl Abort,
     alloc: Global,

@@ -10,7 +10,7 @@ pub(crate) const RUN: Case = Case {
     ..FOUR
 };
 
-/// Two currents of spinors.
+// Two currents of spinors.
 const SPINORS: Case = Case {
     file: Some(CURRENTS),
     input: "1 1 0 0 0 0 0 1 0\n2 1 0 0 0 1 0 0 0\n3 1 0 0 0 0 1 0 0\n4 -3 0 0 0 0 0 0 1\n",
