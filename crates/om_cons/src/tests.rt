@@ -3,14 +3,14 @@ use super::*;
 use crate::laws::identical_keys;
 use std::test::Fail;
 
-/// The ends of a wave function's colour lines, and where a line from above ends.
+// The ends of a wave function's colour lines, and where a line from above ends.
 #[derive(Clone, Copy, Debug, PartialEq, Eq, Hash)]
 struct Partial {
     ends: [u8; 12],
     into: u8,
 }
 
-/// A key of three parts: a set of legs, a field and a partial flow.
+// A key of three parts: a set of legs, a field and a partial flow.
 #[derive(Clone, Copy, Debug, PartialEq, Eq, Hash)]
 struct Key {
     legs: u16,

@@ -118,7 +118,7 @@ impl Folder for MemFolder {
     }
 }
 
-// Moves at most `most` of the bytes from the place `at` on to the front of `to`, and returns how many.
+/// Moves at most `most` of the bytes from the place `at` on to the front of `to`, and returns how many.
 pub(crate) fn copy_part(bytes: &[u8], at: usize, most: usize, to: &mut [u8]) -> usize
     ensures count { result ≡ min (length to.old) (min most (length bytes.now - at)) }
     ensures part { to.new ≡ take result (drop at bytes.now) ++ drop result to.old }

@@ -107,7 +107,7 @@ fn whole_pieces(rt: HostRuntime) -> Result<(), Fail> {
     Ok(())
 }
 
-// Bytes that differ from one part of a file to the next.
+/// Bytes that differ from one part of a file to the next.
 pub(crate) fn many_bytes(alloc: Global, len: usize) -> Result<Vec<u8>, Fail> {
     let mut bytes = Vec::new(alloc);
     for k in 0..len {

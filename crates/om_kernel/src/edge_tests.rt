@@ -10,7 +10,7 @@ use crate::waves::Wave;
 use om_lorentz::{Four, Spin, propagator};
 use om_ring::{Book, Elem, Ring, Steps, Zp};
 
-/// An edge that a wave enters.
+// An edge that a wave enters.
 #[derive(Clone, Copy)]
 struct Edge {
     wave: Wave<Elem>,
@@ -20,7 +20,7 @@ struct Edge {
     momentum: Four<Elem>,
 }
 
-/// The numerator between the far end and the near end of an edge.
+// The numerator between the far end and the near end of an edge.
 fn numerator(edge: &Edge, far: u8, near: u8, steps: &mut Steps<Book>) -> Elem
     requires far_in { far < 4 }
     requires near_in { near < 4 }
@@ -78,7 +78,7 @@ fn numerator(edge: &Edge, far: u8, near: u8, steps: &mut Steps<Book>) -> Elem
     }
 }
 
-/// The index sum at an index of the far end.
+// The index sum at an index of the far end.
 fn index_sum(edge: &Edge, far: u8, steps: &mut Steps<Book>) -> Elem
     requires far_in { far < 4 }
     requires agrees { let e = edge.now in MassAgrees zp (spin_of e.wave) e.mass e.inverse_mass e.massive }
@@ -96,7 +96,7 @@ fn index_sum(edge: &Edge, far: u8, steps: &mut Steps<Book>) -> Elem
     sum
 }
 
-/// What an edge makes of its wave.
+// What an edge makes of its wave.
 fn far_end(edge: &Edge, factor: Elem, steps: &mut Steps<Book>) -> Wave<Elem>
     requires { let e = edge.now in MassAgrees zp (spin_of e.wave) e.mass e.inverse_mass e.massive }
 {
@@ -112,7 +112,7 @@ fn far_end(edge: &Edge, factor: Elem, steps: &mut Steps<Book>) -> Wave<Elem>
     )
 }
 
-/// The calls that an edge takes, where it gives the factor times the index sum at each index.
+// The calls that an edge takes, where it gives the factor times the index sum at each index.
 fn edge_calls(edge: &Edge) -> Option<u64>
     requires { let e = edge.now in MassAgrees zp (spin_of e.wave) e.mass e.inverse_mass e.massive }
 {
@@ -130,7 +130,7 @@ fn edge_calls(edge: &Edge) -> Option<u64>
     Some(steps.count())
 }
 
-/// Whether an edge without mass and one with a mass give the index sums, and take this many calls.
+// Whether an edge without mass and one with a mass give the index sums, and take this many calls.
 fn takes(wave: Wave<Elem>, massless: u64, massive: u64) -> bool {
     let (zero, mass) = (Zp.zero(), Zp.number(19));
     let mut edge = Edge {

@@ -13,8 +13,8 @@ use om_lorentz::Four;
 use om_ring::ring::Ring;
 use om_ring::steps::Steps;
 
-/// The momentum q for which a row goes with p as a column does with q: qslash is -pslash transposed, and
-/// transposing turns gamma_1 and gamma_3 round.
+// The momentum q for which a row goes with p as a column does with q: qslash is -pslash transposed, and
+// transposing turns gamma_1 and gamma_3 round.
 fn row_momentum<R: Ring<Mark = L>, L>(ring: &R, p: &Four<R::E>, steps: &mut Steps<L>) -> Four<R::E>
     ensures value { result ≡ row_momentum (R.ops ring.now) p.now }
     ensures at_most { steps.new ≤ steps.old + 2 * R.cost ring.now }
@@ -27,7 +27,7 @@ fn row_momentum<R: Ring<Mark = L>, L>(ring: &R, p: &Four<R::E>, steps: &mut Step
     }
 }
 
-/// The column i factor (pslash + mass) d.
+// The column i factor (pslash + mass) d.
 #[inline(always)]
 fn propagate_spinor<R: Ring<Mark = L>, L>(
     ring: &R,
@@ -46,7 +46,7 @@ fn propagate_spinor<R: Ring<Mark = L>, L>(
     scaled(ring, turned, &sum, steps)
 }
 
-/// The vector -i factor g w.
+// The vector -i factor g w.
 fn propagate_massless<R: Ring<Mark = L>, L>(
     ring: &R,
     w: &Four<R::E>,
@@ -61,7 +61,7 @@ fn propagate_massless<R: Ring<Mark = L>, L>(
     scaled(ring, turned, &back, steps)
 }
 
-/// The vector -i factor (g w - p (p w) / m^2).
+// The vector -i factor (g w - p (p w) / m^2).
 fn propagate_massive<R: Ring<Mark = L>, L>(
     ring: &R,
     w: &Four<R::E>,

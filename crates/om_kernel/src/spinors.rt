@@ -92,20 +92,20 @@ pub(crate) fn current<R: Ring<Mark = L>, L>(
     }
 }
 
-/// The entries of v^mu gamma_mu, up to their signs.
+// The entries of v^mu gamma_mu, up to their signs.
 #[derive(Clone, Copy)]
 struct Slash<E> {
-    /// v0 + v3.
+    // v0 + v3.
     high: E,
-    /// v0 - v3.
+    // v0 - v3.
     low: E,
-    /// v1 + i v2.
+    // v1 + i v2.
     up: E,
-    /// v1 - i v2.
+    // v1 - i v2.
     down: E,
 }
 
-/// The entries of v^mu gamma_mu.
+// The entries of v^mu gamma_mu.
 #[inline(always)]
 fn slash_entries<R: Ring<Mark = L>, L>(
     ring: &R,

@@ -116,7 +116,7 @@ pub(crate) struct Held {
     pub(crate) places: Places,
 }
 
-// The slots of a vertex with a hole, or with none where `hole` is 0.
+/// The slots of a vertex with a hole, or with none where `hole` is 0.
 pub(crate) fn slots_of(structure: Structure, hole: u8) -> Held
     requires { hole ≤ 4 }
     ensures hole { 1 ≤ hole → Fits structure hole (slots_at zp result.waves result.momenta result.places) }

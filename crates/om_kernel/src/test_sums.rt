@@ -8,7 +8,7 @@ use crate::waves::{Place, Wave};
 use om_lorentz::{Momenta, Reading, Structure, entry};
 use om_ring::{Book, Elem, Ring, Steps, Zp};
 
-// How many indices a slot has.
+/// How many indices a slot has.
 pub(crate) fn index_count(structure: Structure, slot: u8) -> u8
     requires { IsSlot slot }
     ensures { result ≡ length (slot_indices structure slot) }
@@ -95,7 +95,7 @@ fn has_indices(structure: Structure, indices: [u8; 4], hole: u8, n: u8) -> bool
     in_range && at_hole
 }
 
-// The index sum with the hole, where there is one, at n, times i.
+/// The index sum with the hole, where there is one, at n, times i.
 pub(crate) fn slow_sum(structure: Structure, reading: Reading, hole: u8, n: u8) -> Elem
     requires high { hole ≤ 4 }
     requires reads { IsReading structure reading }

@@ -6,7 +6,7 @@ use om_lorentz::Four;
 use om_ring::ring::Ring;
 use om_ring::steps::Steps;
 
-/// The sum of the products of the three space components.
+// The sum of the products of the three space components.
 #[inline(always)]
 fn space_dot<R: Ring<Mark = L>, L>(
     ring: &R,
@@ -72,7 +72,7 @@ pub fn plus_four<R: Ring<Mark = L>, L>(
     }
 }
 
-/// The difference x - y.
+// The difference x - y.
 #[inline(always)]
 fn minus<R: Ring<Mark = L>, L>(ring: &R, x: R::E, y: R::E, steps: &mut Steps<L>) -> R::E
     ensures value { let o = R.ops ring.now in result ≡ o.plus x (o.minus y) }

@@ -44,7 +44,7 @@ pub fn fuse<R: Ring<Mark = L>, L>(
     fused(ring, structure, reading, factors, slots, hole, steps)
 }
 
-/// The product of a wave and the wave in a slot, summed over their index.
+// The product of a wave and the wave in a slot, summed over their index.
 fn contracted<R: Ring<Mark = L>, L>(
     ring: &R,
     wave: &Wave<R::E>,

@@ -4,7 +4,7 @@ ghost use Rattle.std.specs.Prelude.{◌≤◌};
 use crate::keystones;
 use om_legs::LegSet;
 
-/// The numbers of the sets of the keystones of 3 and of 4 legs, in which leg k counts 2^(k-1).
+// The numbers of the sets of the keystones of 3 and of 4 legs, in which leg k counts 2^(k-1).
 const THREE_LEGS: [[u16; 4]; 1] = [[1, 2, 4, 0]];
 
 const FOUR_LEGS: [[u16; 4]; 4] = [[1, 2, 12, 0], [1, 6, 8, 0], [1, 10, 4, 0], [1, 2, 4, 8]];
@@ -18,7 +18,7 @@ fn numbers(parts: [LegSet; 4]) -> [u16; 4] {
     ]
 }
 
-/// How many keystones of n legs there are, and how many of them stand in a table.
+// How many keystones of n legs there are, and how many of them stand in a table.
 fn found(n: u8, table: &[[u16; 4]]) -> (u32, u32)
     requires some { 3 ≤ n }
     requires within { n ≤ 12 }
@@ -34,7 +34,7 @@ fn found(n: u8, table: &[[u16; 4]]) -> (u32, u32)
     (all, known)
 }
 
-/// How many keystones of n legs have three parts.
+// How many keystones of n legs have three parts.
 fn threes(n: u8) -> u32
     requires some { 3 ≤ n }
     requires within { n ≤ 12 }

@@ -27,7 +27,7 @@ pub(crate) fn marks_of(
     Ok(marks)
 }
 
-/// Marks the nodes of keystone terms.
+// Marks the nodes of keystone terms.
 fn mark_keys(marks: &mut [bool], keys: &[KeyTerm])
     ensures { marks.new ≡ mark_keys marks.old (map unsigned_key keys.now) }
 {
@@ -36,14 +36,14 @@ fn mark_keys(marks: &mut [bool], keys: &[KeyTerm])
     }
 }
 
-/// The nodes that meet.
+// The nodes that meet.
 fn nodes_of(branches: &Branches) -> &[u32]
     ensures { result.now ≡ nodes_at branches.now }
 {
     &branches.nodes[..branches.count as usize]
 }
 
-/// Marks nodes; a number past the last node marks nothing.
+// Marks nodes; a number past the last node marks nothing.
 fn mark_all(marks: &mut [bool], nodes: &[u32])
     ensures { marks.new ≡ mark_all marks.old nodes.now }
 {
@@ -61,8 +61,8 @@ fn mark(marks: &mut [bool], node: u32)
     }
 }
 
-/// Marks the branches of the nodes that are marked, by the last term first: a branch has a lesser number than its node, so
-/// all terms that could mark a node come before the node's own.
+// Marks the branches of the nodes that are marked, by the last term first: a branch has a lesser number than its node, so
+// all terms that could mark a node come before the node's own.
 fn mark_terms(marks: &mut [bool], terms: &[Term])
     ensures { marks.new ≡ mark_terms marks.old (map unsigned terms.now) }
 {

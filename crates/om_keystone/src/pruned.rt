@@ -70,7 +70,7 @@ pub fn prune(
     Ok(Pruned { graph })
 }
 
-/// The part of a graph that its keystone terms reach: the graph itself where they reach all of it.
+// The part of a graph that its keystone terms reach: the graph itself where they reach all of it.
 fn reached_part(alloc: Global, graph: Graph) -> Result<Graph, NoMemory>
     requires within { NamesItsNodes graph }
     ensures part { IfOk result (λ part. IsReachedPart graph part) }
@@ -88,7 +88,7 @@ fn reached_part(alloc: Global, graph: Graph) -> Result<Graph, NoMemory>
     Ok(part)
 }
 
-/// The graph of the nodes with marks.
+// The graph of the nodes with marks.
 fn marked_part(alloc: Global, marks: &[bool], graph: Graph) -> Result<Graph, NoMemory>
     requires same_length { length marks.now ≡ length graph.nodes }
     ensures part { IfOk result (λ part. IsMarkedPart marks.now graph part) }
@@ -108,7 +108,7 @@ fn marked_part(alloc: Global, marks: &[bool], graph: Graph) -> Result<Graph, NoM
     })
 }
 
-/// The new number of each node: how many nodes before it are kept.
+// The new number of each node: how many nodes before it are kept.
 fn numbers_of(alloc: Global, marks: &[bool]) -> Result<Vec<usize>, NoMemory>
     ensures numbers { IfOk result (λ numbers. numbers.items ≡ numbers_from 0 marks.now) }
 {
@@ -185,7 +185,7 @@ fn renumbered_keys(
     Ok(new)
 }
 
-/// The new number of a node, which is no greater than the old one.
+// The new number of a node, which is no greater than the old one.
 fn new_number(numbers: &[usize], node: u32) -> u32
     requires low { AreLow numbers.now }
     ensures { result ≡ new_number numbers.now node }
@@ -198,7 +198,7 @@ fn new_number(numbers: &[usize], node: u32) -> u32
     }
 }
 
-/// The same branches by their new numbers.
+// The same branches by their new numbers.
 fn renumbered(numbers: &[usize], branches: &Branches) -> Branches
     requires low { AreLow numbers.now }
     ensures { nodes_at result ≡ map (new_number numbers.now) (nodes_at branches.now) }

@@ -15,7 +15,7 @@ pub fn cross_parity(a: LegSet, b: LegSet, fermions: LegSet) -> bool
     (greater & odd_below(lesser)).count_ones() % 2 == 1
 }
 
-/// The places below which an odd number of bits is set.
+// The places below which an odd number of bits is set.
 fn odd_below(bits: u16) -> u16
     ensures { (k : ℕ) → k < 16 → bit_at result k ≡ bit_sum bits k % 2 }
 {

@@ -12,7 +12,7 @@ use fermions::{fermions_scalar, fermions_vector};
 use om_ring::ring::Ring;
 use om_ring::steps::Steps;
 
-/// What a vertex is read with, at indices that are below four.
+// What a vertex is read with, at indices that are below four.
 #[derive(Drop)]
 struct Vertex<E> {
     reading: Reading,
@@ -22,7 +22,7 @@ struct Vertex<E> {
     ghost below: { (slot : ℕ) → IsSlot slot → index indices slot < 4 },
 }
 
-/// The momentum that enters through a slot.
+// The momentum that enters through a slot.
 fn momentum<E: Copy>(vertex: &Vertex<E>, slot: u8) -> Four<E>
     requires { IsSlot slot }
     ensures { result ≡ momentum vertex.now.momenta slot }
@@ -35,7 +35,7 @@ fn momentum<E: Copy>(vertex: &Vertex<E>, slot: u8) -> Four<E>
     }
 }
 
-/// The index of a slot.
+// The index of a slot.
 fn index<E: Copy>(vertex: &Vertex<E>, slot: u8) -> u8
     requires { IsSlot slot }
     ensures value { result ≡ index vertex.now.indices slot }
@@ -44,7 +44,7 @@ fn index<E: Copy>(vertex: &Vertex<E>, slot: u8) -> u8
     vertex.indices[(slot - 1) as usize]
 }
 
-/// x g_jk, where j and k are slots.
+// x g_jk, where j and k are slots.
 fn times_g<R: Ring<Mark = L>, L>(
     ring: &R,
     x: R::E,
@@ -62,7 +62,7 @@ fn times_g<R: Ring<Mark = L>, L>(
     times_metric(ring, x, index(vertex, j), index(vertex, k), steps)
 }
 
-/// x g_jk g_mn, where j, k, m and n are slots.
+// x g_jk g_mn, where j, k, m and n are slots.
 fn times_two<R: Ring<Mark = L>, L>(
     ring: &R,
     x: R::E,
@@ -85,7 +85,7 @@ fn times_two<R: Ring<Mark = L>, L>(
     times_g(ring, once, vertex, m, n, steps)
 }
 
-/// g_jk (p_j - p_k)_n, where j, k and n are slots.
+// g_jk (p_j - p_k)_n, where j, k and n are slots.
 fn metric_difference<R: Ring<Mark = L>, L>(
     ring: &R,
     vertex: &Vertex<R::E>,
@@ -106,7 +106,7 @@ fn metric_difference<R: Ring<Mark = L>, L>(
     times_g(ring, along, vertex, j, k, steps)
 }
 
-/// The entry of `Vss`.
+// The entry of `Vss`.
 fn vector_scalars<R: Ring<Mark = L>, L>(
     ring: &R,
     vertex: &Vertex<R::E>,
@@ -121,7 +121,7 @@ fn vector_scalars<R: Ring<Mark = L>, L>(
     ring.mul(vertex.factors.a, along, steps)
 }
 
-/// The entry of `Vvv`.
+// The entry of `Vvv`.
 fn three_vectors<R: Ring<Mark = L>, L>(
     ring: &R,
     vertex: &Vertex<R::E>,
@@ -141,7 +141,7 @@ fn three_vectors<R: Ring<Mark = L>, L>(
     ring.mul(vertex.factors.a, sum, steps)
 }
 
-/// The entry of `Vvvv`.
+// The entry of `Vvvv`.
 fn four_vectors<R: Ring<Mark = L>, L>(ring: &R, vertex: &Vertex<R::E>, steps: &mut Steps<L>) -> R::E
     ensures value { let v = vertex.now in
         result ≡ entry (R.ops ring.now) Structure.Vvvv v.reading v.factors v.momenta v.indices }
@@ -154,7 +154,7 @@ fn four_vectors<R: Ring<Mark = L>, L>(ring: &R, vertex: &Vertex<R::E>, steps: &m
     ring.add(two, third, steps)
 }
 
-/// The entry of `Gluon4`.
+// The entry of `Gluon4`.
 fn four_gluons<R: Ring<Mark = L>, L>(ring: &R, vertex: &Vertex<R::E>, steps: &mut Steps<L>) -> R::E
     requires reads { let at = read vertex.now.reading in
         IsSlot (at 1) × IsSlot (at 2) × IsSlot (at 3) × IsSlot (at 4) }

@@ -8,7 +8,7 @@ use crate::vectors::Four;
 use om_ring::ring::Ring;
 use om_ring::steps::Steps;
 
-/// The gamma matrices with lower index: gamma_0, gamma_1, gamma_2, gamma_3.
+// The gamma matrices with lower index: gamma_0, gamma_1, gamma_2, gamma_3.
 const GAMMA: [[[Phase; 4]; 4]; 4] = [
     [
         [Zero, Zero, One, Zero],

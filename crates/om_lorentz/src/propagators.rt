@@ -10,7 +10,7 @@ use crate::vectors::Four;
 use om_ring::ring::Ring;
 use om_ring::steps::Steps;
 
-/// The entry of pslash, the sum of p^mu gamma_mu.
+// The entry of pslash, the sum of p^mu gamma_mu.
 fn slash<R: Ring<Mark = L>, L>(
     ring: &R,
     p: &Four<R::E>,
@@ -32,7 +32,7 @@ fn slash<R: Ring<Mark = L>, L>(
     ring.add(t, space, steps)
 }
 
-/// The entry of i (pslash + m).
+// The entry of i (pslash + m).
 fn dirac_numerator<R: Ring<Mark = L>, L>(
     ring: &R,
     mass: R::E,
@@ -55,7 +55,7 @@ fn dirac_numerator<R: Ring<Mark = L>, L>(
     ring.mul(ring.imag(), sum, steps)
 }
 
-/// The entry of -i g.
+// The entry of -i g.
 fn massless_numerator<R: Ring<Mark = L>, L>(
     ring: &R,
     left: u8,
@@ -71,7 +71,7 @@ fn massless_numerator<R: Ring<Mark = L>, L>(
     ring.neg(turned, steps)
 }
 
-/// The entry of -i (g - p p / m^2), as i (p p / m^2 - g).
+// The entry of -i (g - p p / m^2), as i (p p / m^2 - g).
 fn massive_numerator<R: Ring<Mark = L>, L>(
     ring: &R,
     inverse_mass: R::E,

@@ -6,13 +6,13 @@ use crate::vectors::{Four, Momenta};
 use crate::{entry, gamma, propagator};
 use om_ring::{Book, Elem, Ring, Steps, Zp};
 
-/// P, modulo which the numbers are.
+// P, modulo which the numbers are.
 const P: u64 = 18446744069414584321;
 
-/// i modulo P.
+// i modulo P.
 const IMAG: u64 = 281474976710656;
 
-/// The vector with the components t, x, y, z.
+// The vector with the components t, x, y, z.
 fn four(t: u64, x: u64, y: u64, z: u64) -> Four<Elem> {
     Four {
         t: Zp.number(t),
@@ -22,7 +22,7 @@ fn four(t: u64, x: u64, y: u64, z: u64) -> Four<Elem> {
     }
 }
 
-/// An entry with the factors 5, 7, 11 and four fixed momenta.
+// An entry with the factors 5, 7, 11 and four fixed momenta.
 fn entry_at(structure: Structure, slots: [u8; 4], indices: [u8; 4]) -> u64
     requires indices_in { HasIndices structure indices }
     requires reads { IsReading structure (record { slots = slots }) }
@@ -83,7 +83,7 @@ fn four_slots(rt: HostRuntime) {
     );
 }
 
-/// A numerator at the momentum p, or nothing where the mass isn't 0 and has no inverse.
+// A numerator at the momentum p, or nothing where the mass isn't 0 and has no inverse.
 fn numerator_at(spin: Spin, mass: u64, p: &Four<Elem>, left: u8, right: u8) -> Option<u64>
     requires left_in { IsIndex spin left }
     requires right_in { IsIndex spin right }

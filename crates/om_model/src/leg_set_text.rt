@@ -7,7 +7,7 @@ ghost use Rattle.om_model.specs.LegSetText.{is_set as is_set_of, leg_number as l
 use om_legs::{LegSet, MOST_LEGS};
 use om_ring::{LINE_BYTES, Line, read_decimal_below};
 
-// What the text of a set of legs names: its legs among 1 to 12, and its greatest number.
+/// What the text of a set of legs names: its legs among 1 to 12, and its greatest number.
 #[derive(Clone, Copy)]
 pub(crate) struct LegsRead {
     pub(crate) legs: LegSet,
@@ -71,8 +71,8 @@ pub(crate) fn is_set(text: &[u8]) -> bool
     read_legs(text).is_some()
 }
 
-// The legs that a text names: numbers from 1 to 99 without leading zeros, strictly rising, joined by `+`. None where the text is
-// no such set.
+/// The legs that a text names: numbers from 1 to 99 without leading zeros, strictly rising, joined by `+`. None where the text is
+/// no such set.
 pub(crate) fn read_legs(text: &[u8]) -> Option<LegsRead>
     ensures { result ≡ option_map legs_read (set_numbers text.now) }
 {

@@ -26,7 +26,7 @@ fn chiral<R: Ring<Mark = L>, L>(
     }
 }
 
-// The entry of `Ffs`.
+/// The entry of `Ffs`.
 pub(super) fn fermions_scalar<R: Ring<Mark = L>, L>(
     ring: &R,
     vertex: &Vertex<R::E>,
@@ -44,7 +44,7 @@ pub(super) fn fermions_scalar<R: Ring<Mark = L>, L>(
     }
 }
 
-// The entry of `Ffv`.
+/// The entry of `Ffv`.
 pub(super) fn fermions_vector<R: Ring<Mark = L>, L>(
     ring: &R,
     vertex: &Vertex<R::E>,

@@ -10,7 +10,7 @@ use crate::{Particle, Vertex, colour_row};
 use om_colour::ColourRow;
 use om_lorentz::{Spin, Structure};
 
-// The row of the colour table of a vertex whose fields, factors and colours are those of its structure.
+/// The row of the colour table of a vertex whose fields, factors and colours are those of its structure.
 pub(crate) fn pattern_of(particles: &[Particle], vertex: &Vertex) -> Option<ColourRow>
     ensures { MatchOption result (HasPattern particles.now vertex.now → ⊥) (λ row. HasPattern particles.now vertex.now × (colour_row_of particles.now vertex.now.fields ≡ Some row)) }
 {

@@ -10,7 +10,7 @@ use om_colour::ColourRow;
 use om_lorentz::Structure;
 use om_ring::Ring;
 
-// Whether any two slots with equal fields may be exchanged.
+/// Whether any two slots with equal fields may be exchanged.
 pub(crate) fn is_symmetric<R: Ring<Mark = L>, L>(
     ring: &R,
     vertex: &Vertex,

@@ -39,7 +39,7 @@ pub fn is_formed_vertex(particles: &[Particle], vertex: &Vertex) -> bool
     is_within_limits(vertex) && pattern_of(particles, vertex).is_some()
 }
 
-// The values of the factors; 1 where a structure has fewer.
+/// The values of the factors; 1 where a structure has fewer.
 #[derive(Clone, Copy)]
 pub(crate) struct Values<E> {
     pub(crate) first: E,

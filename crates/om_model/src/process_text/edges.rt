@@ -10,7 +10,7 @@ use om_legs::LegSet;
 use om_ring::List;
 use std::alloc::Global;
 
-// The edges that the sets of a text name among so many legs, or the first set that names none.
+/// The edges that the sets of a text name among so many legs, or the first set that names none.
 pub(crate) fn named_edges(
     alloc: Global,
     legs: u8,

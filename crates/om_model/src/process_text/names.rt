@@ -9,7 +9,7 @@ use crate::{Leg, Particle, ProcessFault};
 use om_ring::List;
 use std::alloc::Global;
 
-// The legs of the names of a text, or the first name that isn't in the model.
+/// The legs of the names of a text, or the first name that isn't in the model.
 pub(crate) fn named_legs(
     alloc: Global,
     particles: &[Particle],

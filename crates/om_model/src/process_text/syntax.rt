@@ -12,8 +12,8 @@ pub(crate) const ARROW: &[u8] = b"->";
 
 const SLASH: &[u8] = b"/";
 
-// What was read: nothing; a name or more; the arrow behind names; the arrow and a name or more behind it; a slash behind that; a
-// set behind a slash.
+/// What was read: nothing; a name or more; the arrow behind names; the arrow and a name or more behind it; a slash behind that; a
+/// set behind a slash.
 #[derive(Clone, Copy)]
 pub(crate) enum Stage {
     Start,
@@ -24,7 +24,7 @@ pub(crate) enum Stage {
     Named,
 }
 
-// The place of the first token that may not stand where it stands, or the length where something is missing.
+/// The place of the first token that may not stand where it stands, or the length where something is missing.
 pub(crate) fn syntax_fault(text: &[u8]) -> Option<usize>
     ensures { result ≡ fault_from (length text.now) Stage.Start (tokens_of text.now) }
 {

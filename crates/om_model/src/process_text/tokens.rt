@@ -3,14 +3,14 @@ ghost use Rattle.std.specs.Prelude.{◌≡◌, [], ◌+◌, ◌≤◌, ◌==◌,
 ghost use Rattle.std.specs.List.{position, position_or_len};
 ghost use Rattle.om_model.specs.Tokens.{IsNextToken, rest_tokens};
 
-// The bytes of a token: from `start` on, before `end`.
+/// The bytes of a token: from `start` on, before `end`.
 #[derive(Clone, Copy)]
 pub(crate) struct Span {
     pub(crate) start: usize,
     pub(crate) end: usize,
 }
 
-// The first token that begins at or behind a place.
+/// The first token that begins at or behind a place.
 pub(crate) fn next_token(text: &[u8], from: usize) -> Option<Span>
     requires { from ≤ length text.now }
     ensures { MatchOption result (rest_tokens text.now from ≡ []) (λ t. IsNextToken text.now from t.start t.end) }
