@@ -8,7 +8,7 @@ use crate::Event;
 use om_code::Code;
 use om_kernel::Wave;
 use om_lorentz::Four;
-use om_ring::{Elem, Zp};
+use om_ring::{Elem, Ring, Zp};
 use std::alloc::Global;
 use std::process::Abort;
 use std::test::Fail;
