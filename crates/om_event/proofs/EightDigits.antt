@@ -220,19 +220,19 @@ module _ (w : ℕ) (fits : w < 18446744073709551616) (high : bit_and w 925954212
           value = ap joined i ∙ joined_is _ _ _ _ _ _ _ _ v ∙ digits_of _ _ _ _ _ _ _ _;
         }
 
-abbrev AreBytes : List ℕ → Type 0
+abbrev pub AreBytes : List ℕ → Type 0
 AreBytes [] = Unit {0}
 AreBytes (b ∷ bs) = (b ≤ 255) × AreBytes bs
 
-digits_bytes : (ds : List ℕ) → AllDigits ds → AreBytes ds
+pub digits_bytes : (ds : List ℕ) → AllDigits ds → AreBytes ds
 digits_bytes [] d = tt
 digits_bytes (d ∷ ds) h = (omega (arith, h.0.1), digits_bytes ds h.1)
 
-bytes_of : (text : List ℕ) → ((i : ℕ) → Fits w8 (slice_index_or text i 0)) → AreBytes text
+pub bytes_of : (text : List ℕ) → ((i : ℕ) → Fits w8 (slice_index_or text i 0)) → AreBytes text
 bytes_of [] h = tt
 bytes_of (b ∷ bs) h = ((let f = h 0 in omega (arith, f)), bytes_of bs (λ i. h (suc i)))
 
-take_bytes : (n : ℕ) (bs : List ℕ) → AreBytes bs → AreBytes (take n bs)
+pub take_bytes : (n : ℕ) (bs : List ℕ) → AreBytes bs → AreBytes (take n bs)
 take_bytes zero bs h = tt
 take_bytes (suc n) [] h = tt
 take_bytes (suc n) (b ∷ bs) h = (h.0, take_bytes n bs h.1)
@@ -263,16 +263,20 @@ value_below n (d ∷ ds) h =
     let scaled : 10 ^ length (d ∷ ds) ≡ 10 * 10 ^ length ds = pow-succ' 10 (length ds) in
     rw scaled (subst (λ m. digits_value_from (10 * n + (d - 48)) ds < m) same (omega (arith, ih, more)))
 
--- a text whose first eight bytes are the values of digits, each with that of "0"
-pub eight_read : (text : List ℕ) → ((i : ℕ) → Fits w8 (slice_index_or text i 0)) → (w n : ℕ) → 8 ≤ length text → w ≡ word_of (take 8 text)
-    → AreEight ((w + 14974415777481871312) % 18446744073709551616) n → AllDigits (take 8 text) × (n ≡ digits_value (take 8 text)) × (n < 100000000)
-eight_read text bytes w n l e h =
-    let size : length (take 8 text) ≡ 8 = length-take-le 8 text l in
-    let front = take_bytes 8 text (bytes_of text bytes) in
+-- eight bytes that are the values of digits, each with that of "0"
+pub eight_are : (bs : List ℕ) (w n : ℕ) → length bs ≡ 8 → AreBytes bs → w ≡ (word_of bs + 14974415777481871312) % 18446744073709551616
+    → AreEight w n → AllDigits bs × (n ≡ digits_value bs) × (n < 100000000)
+eight_are bs w n size front e h =
     let digits = digits_bytes h.digits h.all in
-    let p = word_below 8 (take 8 text) size front in
+    let p = word_below 8 bs size front in
     let q = word_below 8 h.digits h.eight digits in
-    let same : take 8 text ≡ h.digits = same_bytes (take 8 text) h.digits (omega (arith, size, h.eight)) front digits (omega (arith, p, q, e, h.is)) in
+    let same : bs ≡ h.digits = same_bytes bs h.digits (omega (arith, size, h.eight)) front digits (omega (arith, p, q, e, h.is)) in
     let few = value_below 0 h.digits h.all in
     let count : 10 ^ length h.digits ≡ 100000000 = ap (λ (m : ℕ). 10 ^ m) h.eight in
     (subst AllDigits (sym same) h.all, h.value ∙ ap digits_value (sym same), omega (arith, h.value, few, count))
+
+-- a text whose first eight bytes are such
+pub eight_read : (text : List ℕ) → ((i : ℕ) → Fits w8 (slice_index_or text i 0)) → (w n : ℕ) → 8 ≤ length text → w ≡ word_of (take 8 text)
+    → AreEight ((w + 14974415777481871312) % 18446744073709551616) n → AllDigits (take 8 text) × (n ≡ digits_value (take 8 text)) × (n < 100000000)
+eight_read text bytes w n l e h = eight_are (take 8 text) ((w + 14974415777481871312) % 18446744073709551616) n (length-take-le 8 text l)
+    (take_bytes 8 text (bytes_of text bytes)) (ap (λ (m : ℕ). (m + 14974415777481871312) % 18446744073709551616) e) h

@@ -1,6 +1,7 @@
 pub mod LineReads
 pub mod EightDigits
 pub mod LeadingNumbers
+pub mod SevenDigits
 pub mod WrittenLines
 pub mod Components
 pub mod Held

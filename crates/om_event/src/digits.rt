@@ -1,8 +1,8 @@
 //! The digits at the front of a text.
-ghost use Rattle.std.specs.Prelude.{◌≡◌, ◌≤◌, ◌<◌, ◌+◌, ◌^◌, length, take, slice_index_or, IfSome};
+ghost use Rattle.std.specs.Prelude.{◌≡◌, ◌≤◌, ◌<◌, ◌+◌, ◌-◌, ◌^◌, length, take, slice_index_or, IfSome};
 ghost use Rattle.om_ring.specs.Numerals.{AllDigits, digits_value, digits_value_from};
 
-use crate::eights::eight_at_front;
+use crate::eights::{eight_at_front, seven_at_front};
 
 // The greatest number behind which any digit fits.
 const MOST_TENTHS: u64 = 1_844_674_407_370_955_160;
@@ -154,5 +154,71 @@ pub(crate) fn digits_before(text: &[u8], stop: u8) -> Option<Digits>
     Some(Digits {
         value: few.value,
         len: 16 + few.len,
+    })
+}
+
+// The least number that so many digits write without a zero in front.
+#[inline(always)]
+pub(crate) fn least_of_len(len: usize) -> Option<u64>
+    ensures { IfSome result (λ least. (0 < len) × (1 < len → least ≡ 10 ^ (len - 1))) }
+{
+    match len {
+        1 => Some(0),
+        2 => Some(10),
+        3 => Some(100),
+        4 => Some(1_000),
+        5 => Some(10_000),
+        6 => Some(100_000),
+        7 => Some(1_000_000),
+        8 => Some(10_000_000),
+        9 => Some(100_000_000),
+        10 => Some(1_000_000_000),
+        11 => Some(10_000_000_000),
+        12 => Some(100_000_000_000),
+        13 => Some(1_000_000_000_000),
+        14 => Some(10_000_000_000_000),
+        15 => Some(100_000_000_000_000),
+        16 => Some(1_000_000_000_000_000),
+        17 => Some(10_000_000_000_000_000),
+        18 => Some(100_000_000_000_000_000),
+        19 => Some(1_000_000_000_000_000_000),
+        20 => Some(10_000_000_000_000_000_000),
+        _ => None,
+    }
+}
+
+// Ten to the power of a number of digits, of up to seven.
+#[inline(always)]
+fn ten_to(len: usize) -> Option<u64>
+    ensures { IfSome result (λ n. (n ≡ 10 ^ len) × (n ≤ 10000000)) }
+{
+    match len {
+        0 => Some(1),
+        1 => Some(10),
+        2 => Some(100),
+        3 => Some(1_000),
+        4 => Some(10_000),
+        5 => Some(100_000),
+        6 => Some(1_000_000),
+        7 => Some(10_000_000),
+        _ => None,
+    }
+}
+
+// The digits at the front, before another byte, if they are fewer than sixteen and so many bytes are there.
+#[inline(always)]
+pub(crate) fn fifteen_at_front(text: &[u8]) -> Option<Digits>
+    ensures within { IfSome result (λ d. d.len < length text.now) }
+    ensures digits { IfSome result (λ d. AllDigits (take d.len text.now)) }
+    ensures value { IfSome result (λ d. d.value ≡ digits_value (take d.len text.now)) }
+{
+    let Some(first) = eight_at_front(text) else {
+        let seven = seven_at_front(text)?;
+        return Some(seven);
+    };
+    let second = seven_at_front(&text[8..])?;
+    Some(Digits {
+        value: first * ten_to(second.len)? + second.value,
+        len: 8 + second.len,
     })
 }

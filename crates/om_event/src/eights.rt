@@ -3,6 +3,8 @@ ghost use Rattle.std.specs.Prelude.{◌≡◌, ◌≤◌, ◌<◌, length, take,
 ghost use Rattle.om_ring.specs.Numerals.{AllDigits, digits_value};
 ghost use Rattle.om_event.specs.Eights.{AreEight, word_of};
 
+use crate::digits::Digits;
+
 // Eight times "0".
 const ZEROS: u64 = 0x3030_3030_3030_3030;
 
@@ -44,6 +46,35 @@ fn joined(values: u64) -> Option<u64>
     let pairs = (values * 10 + values / 256) & SECOND_BYTES;
     let fours = (pairs * 100 + pairs / 65_536) & SECOND_PAIRS;
     Some((fours * 10_000 + fours / 4_294_967_296) % 4_294_967_296)
+}
+
+// How many bytes at the front of these values are those of digits, which their tests tell. Nothing is claimed of it.
+#[inline(always)]
+fn digit_count(values: u64) -> u32 {
+    let others = (values | values.wrapping_add(BEHIND_NINE)) & HIGHEST;
+    others.trailing_zeros() / 8
+}
+
+// The digits at the front, up to seven of them, before another byte, if eight bytes are there. These are moved behind zeros, so that
+// all are looked at together.
+#[inline(always)]
+pub(crate) fn seven_at_front(text: &[u8]) -> Option<Digits>
+    ensures within { IfSome result (λ d. (d.len ≤ 7) × (8 ≤ length text.now)) }
+    ensures digits { IfSome result (λ d. AllDigits (take d.len text.now)) }
+    ensures value { IfSome result (λ d. d.value ≡ digits_value (take d.len text.now)) }
+    ensures below { IfSome result (λ d. d.value < 100000000) }
+{
+    let word = word_at_front(text)?;
+    let values = word.wrapping_sub(ZEROS);
+    let count = digit_count(values);
+    if count > 7 {
+        return None;
+    }
+    let value = joined((values << 8) << (56 - 8 * count))?;
+    Some(Digits {
+        value,
+        len: count as usize,
+    })
 }
 
 // The number that eight digits at the front write, if there are as many.

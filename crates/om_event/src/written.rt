@@ -1,43 +1,13 @@
 //! The numerals of a line, from its front.
-ghost use Rattle.std.specs.Prelude.{ℕ, List, ◌≡◌, ◌++◌, ◌∷◌, ◌≤◌, ◌<◌, ◌^◌, ◌+◌, ◌-◌, length, drop, IfSome, decimal};
+ghost use Rattle.std.specs.Prelude.{ℕ, List, ◌≡◌, ◌++◌, ◌∷◌, ◌≤◌, ◌<◌, ◌^◌, ◌+◌, length, drop, IfSome, decimal};
 ghost use Rattle.om_ring.specs.Numerals.{NumeralFits, mark_text, numeral_text, shown_den, sign_text};
 ghost use Rattle.om_event.specs.Written.{FourFits, IsWritten, LegFits, WaveFits, four_before, leg_of, number_before, wave_before, wave_of};
 
 use crate::WaveKind;
-use crate::digits::{Digits, digits_at_front, digits_before};
+use crate::digits::{Digits, digits_at_front, digits_before, fifteen_at_front, least_of_len};
 use crate::fours::Fours;
 use om_lorentz::Four;
 use om_ring::Numeral;
-
-// The least number that so many digits write without a zero in front.
-#[inline(always)]
-fn least_of_len(len: usize) -> Option<u64>
-    ensures { IfSome result (λ least. (0 < len) × (1 < len → least ≡ 10 ^ (len - 1))) }
-{
-    match len {
-        1 => Some(0),
-        2 => Some(10),
-        3 => Some(100),
-        4 => Some(1_000),
-        5 => Some(10_000),
-        6 => Some(100_000),
-        7 => Some(1_000_000),
-        8 => Some(10_000_000),
-        9 => Some(100_000_000),
-        10 => Some(1_000_000_000),
-        11 => Some(10_000_000_000),
-        12 => Some(100_000_000_000),
-        13 => Some(1_000_000_000_000),
-        14 => Some(10_000_000_000_000),
-        15 => Some(100_000_000_000_000),
-        16 => Some(1_000_000_000_000_000),
-        17 => Some(10_000_000_000_000_000),
-        18 => Some(100_000_000_000_000_000),
-        19 => Some(1_000_000_000_000_000_000),
-        20 => Some(10_000_000_000_000_000_000),
-        _ => None,
-    }
-}
 
 // The decimal at the front, and what follows it.
 #[inline(always)]
@@ -115,6 +85,7 @@ fn decimal_before(text: &[u8], stop: u8) -> Option<(u64, &[u8])>
 }
 
 // Reads the numeral at the front in its canonical text, behind its sign, and answers how many bytes it has with the byte behind it.
+#[inline(never)]
 fn any_before(neg: bool, unsigned: &[u8], stop: u8, numeral: &mut Numeral) -> Option<usize>
     ensures within { IfSome result (λ read. read ≤ length unsigned.now) }
     ensures split { IfSome result (λ read. sign_text neg ++ unsigned.now ≡ number_before numeral.new stop (drop read unsigned.now)) }
@@ -131,6 +102,41 @@ fn any_before(neg: bool, unsigned: &[u8], stop: u8, numeral: &mut Numeral) -> Op
     Some(unsigned.len() - rest.len())
 }
 
+// The decimal at the front, before `stop`, and its length, if it has fewer than sixteen digits. None says nothing of others.
+#[inline(always)]
+fn fifteen_before(text: &[u8], stop: u8) -> Option<Digits>
+    ensures within { IfSome result (λ d. d.len < length text.now) }
+    ensures split { IfSome result (λ d. text.now ≡ decimal d.value ++ stop ∷ drop (d.len + 1) text.now) }
+    ensures fits { IfSome result (λ d. d.value < 2 ^ 64) }
+{
+    let Digits { value, len } = fifteen_at_front(text)?;
+    if value < least_of_len(len)? {
+        return None;
+    }
+    if text[len] != stop {
+        return None;
+    }
+    Some(Digits { value, len })
+}
+
+// Reads the numeral as `any_before` does, after another test for a whole one without mark.
+#[tactic(auto, using(crate::proofs::LeadingNumbers::whole_joined))]
+fn other_before(neg: bool, unsigned: &[u8], stop: u8, numeral: &mut Numeral) -> Option<usize>
+    ensures within { IfSome result (λ read. read ≤ length unsigned.now) }
+    ensures split { IfSome result (λ read. sign_text neg ++ unsigned.now ≡ number_before numeral.new stop (drop read unsigned.now)) }
+    ensures fits { IfSome result (λ _. NumeralFits numeral.new) }
+{
+    let Some(Digits { value, len }) = fifteen_before(unsigned, stop) else {
+        let read = any_before(neg, unsigned, stop, numeral)?;
+        return Some(read);
+    };
+    numeral.neg = neg;
+    numeral.num = value;
+    numeral.den = 1;
+    numeral.imag = false;
+    Some(len + 1)
+}
+
 // Reads the numeral at the front in its canonical text, and answers what follows the byte behind it. Whole ones without mark, as most
 // are, are tried first.
 #[inline(always)]
@@ -141,7 +147,7 @@ fn numeral_before<'a>(text: &'a [u8], stop: u8, numeral: &mut Numeral) -> Option
 {
     let (neg, unsigned) = sign_at_front(text);
     let Some((num, rest)) = decimal_before(unsigned, stop) else {
-        let read = any_before(neg, unsigned, stop, numeral)?;
+        let read = other_before(neg, unsigned, stop, numeral)?;
         return Some(&unsigned[read..]);
     };
     numeral.neg = neg;
