@@ -1,17 +1,17 @@
-use Rattle.std.proofs.Common.{◌∙◌, ap, sym, subst, slice_index_or}
+use Rattle.std.proofs.Common.{◌∙◌, ap, sym, subst}
 use Rattle.om_graph.specs.Caches.{StandLast}
 use Rattle.om_graph.specs.Graph.{Found}
 use Rattle.om_graph.specs.Loops.{fused_found}
 use Rattle.om_graph.specs.Possible.{key_lt, state_of}
-use Rattle.om_graph.specs.Search.{State, add}
+use Rattle.om_graph.specs.Search.{add}
 use Rattle.om_graph.specs.SetWalk.{HasFoundSign}
 use Rattle.om_graph.specs.declared.Key.{Key}
 use Rattle.om_graph.proofs.AddedSigns.{as_long, found_at, longer_found, still_longer}
-use Rattle.om_graph.proofs.AddedTerms.{none_added, one_added, over_set}
+use Rattle.om_graph.proofs.AddedTerms.{next_added, none_added, over_set}
 use Rattle.om_graph.proofs.terms.add_terms.Goals as goal
 
 pub loop-one-init : goal.loop-one-init
-loop-one-init c = record { state = none_added (state_of c.args.nodes.now c.args.terms.now); over = c.requires.over; grown = as_long c.args.nodes.now; signs = λ r h a. h }
+loop-one-init c = record { state = none_added key_lt (state_of c.args.nodes.now c.args.terms.now); over = c.requires.over; grown = as_long c.args.nodes.now; signs = λ r h a. h }
 
 pub loop-one-preserved : goal.loop-one-preserved
 loop-one-preserved c =
@@ -19,10 +19,9 @@ loop-one-preserved c =
     let grown = c.loop-one.invariant.grown in
     record {
       state =
-          c.in_default.ensures.state
-          ∙ ap (λ (x : Found Key). add key_lt (state_of c.loop-one.nodes c.loop-one.terms) x) (ap fused_found c.one-item.is)
-          ∙ ap (λ (s : State Key). add key_lt s (fused_found (slice_index_or c.args.found.now c.loop-one.one-index c.one-item.result))) c.loop-one.invariant.state
-          ∙ sym (one_added fused_found (state_of c.args.nodes.now c.args.terms.now) c.args.found.now c.loop-one.one-index c.one-item.result c.loop-one-test.true);
+          next_added key_lt fused_found (state_of c.args.nodes.now c.args.terms.now) (state_of c.loop-one.nodes c.loop-one.terms) _ c.args.found.now c.loop-one.one-index c.one-item.result
+          (c.in_default.ensures.state ∙ ap (λ (x : Found Key). add key_lt (state_of c.loop-one.nodes c.loop-one.terms) x) (ap fused_found c.one-item.is))
+          c.loop-one.invariant.state c.loop-one-test.true;
       over = (over.0, subst (StandLast c.add_term.new.nodes) (over_set over.0 c.args.found.now c.loop-one.one-index c.one-item.result over.2 c.loop-one-test.true c.one-item.is) c.in_default.ensures.last, over.2);
       grown = still_longer c.args.nodes.now c.loop-one.nodes c.add_term.new.nodes c.loop-one.terms c.add_term.new.terms _ grown c.in_default.ensures.state;
       signs = λ r h a. c.in_default.ensures.signs r (c.loop-one.invariant.signs r h a)
