@@ -1,11 +1,11 @@
 -- Nodes that are chosen one by one.
-use Rattle.std.proofs.Common.{◌≡◌, ℕ, suc, ◌<◌, ◌≤◌, ◌+◌, ◌-◌, List, [], ◌∷◌, ◌++◌, flat_map, length, get_or, take, drop, inl, refl, ap, sym, subst, ◌∙◌, arith, Some, append-nil, append_assoc}
+use Rattle.std.proofs.Common.{◌≡◌, ℕ, suc, ◌<◌, ◌≤◌, ◌+◌, ◌-◌, List, [], ◌∷◌, ◌++◌, flat_map, map, length, get_or, take, drop, inl, refl, ap, sym, subst, ◌∙◌, arith, Some, append-nil, append_assoc}
 use Rattle.om_ring.specs.Members.{In}
 use Rattle.om_graph.specs.declared.Key.{Key}
 use Rattle.om_graph.specs.declared.nodes.Range.{Range}
 use Rattle.om_graph.specs.Caches.{AllBelow, in_range, counts_from}
 use Rattle.om_graph.specs.Graph.{at_numbers}
-use Rattle.om_graph.specs.Loops.{CanMeet, CanMeetFrom, CanCloseAt, CanCloseFrom}
+use Rattle.om_graph.specs.Loops.{AllFrom, CanMeet, CanCloseAt}
 use Rattle.om_graph.specs.Tuples.{tuples, numbers_over, met, met_from}
 use Rattle.om_graph.specs.Vertices.{Reaction}
 use Rattle.om_ring.proofs.Members.{in_map, in_flat_map}
@@ -15,19 +15,38 @@ pub below_more : (n : ℕ) (ks : List ℕ) (k : ℕ) → AllBelow n ks → k < n
 below_more n [] k h l = (l, tt)
 below_more n (x ∷ ks) k h l = (h.0, below_more n ks k h.1 l)
 
--- with nothing more to choose, and with one node more
-pub none_more : (r : Reaction) (ns : List Key) (is : List ℕ) → CanMeetFrom r ns is [] → (ks : List Key) → at_numbers ns is ≡ Some ks → CanMeet r ks
-unfolding tuples
-none_more r ns is h ks e = h [] ks (inl refl) (ap (at_numbers ns) (append-nil is) ∙ e)
+-- what holds of the nodes that may be chosen, with nothing more to choose and with one node more
+abbrev NoneMore : (List Key → Type 0) → Type 0
+NoneMore May = (ns : List Key) (is : List ℕ) → AllFrom May ns is [] → (ks : List Key) → at_numbers ns is ≡ Some ks → May ks
 
-pub one_more : (r : Reaction) (ns : List Key) (is js : List ℕ) (part : ℕ) (more : List ℕ) (x : Range) (n : ℕ) → CanMeetFrom r ns is (part ∷ more) → in_range x ≡ numbers_over (λ (k : Key). k.legs) ns part → x.first ≤ n → n < x.end → js ≡ is ++ n ∷ [] → CanMeetFrom r ns js more
-unfolding tuples
-one_more r ns is js part more x n h e l g q ts ks i a =
-    h (n ∷ ts) ks
-    (in_flat_map (λ m. Rattle.std.proofs.Common.map (λ us. m ∷ us) (tuples (λ (k : Key). k.legs) ns more)) n (n ∷ ts) (numbers_over (λ (k : Key). k.legs) ns part)
-    (subst (In n) e (in_from x.first (x.end - x.first) n l (omega arith)))
-    (in_map (λ us. n ∷ us) ts (tuples (λ (k : Key). k.legs) ns more) i))
-    (ap (at_numbers ns) (sym (append_assoc is (n ∷ []) ts)) ∙ ap (λ (us : List ℕ). at_numbers ns (us ++ ts)) (sym q) ∙ a)
+abbrev OneMore : (List Key → Type 0) → Type 0
+OneMore May = (ns : List Key) (is js : List ℕ) (part : ℕ) (more : List ℕ) (x : Range) (n : ℕ) → AllFrom May ns is (part ∷ more) → in_range x ≡ numbers_over (λ (k : Key). k.legs) ns part → x.first ≤ n → n < x.end → js ≡ is ++ n ∷ [] → AllFrom May ns js more
+
+module _ (May : List Key → Type 0) where
+  nothing_more : NoneMore May
+  unfolding tuples
+  nothing_more ns is h ks e = h [] ks (inl refl) (ap (at_numbers ns) (append-nil is) ∙ e)
+
+  one_node_more : OneMore May
+  unfolding tuples
+  one_node_more ns is js part more x n h e l g q ts ks i a =
+      h (n ∷ ts) ks
+      (in_flat_map (λ m. map (λ us. m ∷ us) (tuples (λ (k : Key). k.legs) ns more)) n (n ∷ ts) (numbers_over (λ (k : Key). k.legs) ns part)
+      (subst (In n) e (in_from x.first (x.end - x.first) n l (omega arith)))
+      (in_map (λ us. n ∷ us) ts (tuples (λ (k : Key). k.legs) ns more) i))
+      (ap (at_numbers ns) (sym (append_assoc is (n ∷ []) ts)) ∙ ap (λ (us : List ℕ). at_numbers ns (us ++ ts)) (sym q) ∙ a)
+
+pub none_more : (r : Reaction) → NoneMore (CanMeet r)
+none_more r = nothing_more (CanMeet r)
+
+pub one_more : (r : Reaction) → OneMore (CanMeet r)
+one_more r = one_node_more (CanMeet r)
+
+pub none_more_closes : (r : Reaction) → NoneMore (CanCloseAt r)
+none_more_closes r = nothing_more (CanCloseAt r)
+
+pub one_more_closes : (r : Reaction) → OneMore (CanCloseAt r)
+one_more_closes r = one_node_more (CanCloseAt r)
 
 pub empty_is : {A : Type 0} (xs : List A) → length xs < 1 → xs ≡ []
 empty_is [] l = refl
@@ -60,17 +79,3 @@ pub from_first : {K X : Type 0} (set : K → ℕ) (meet : List ℕ → List K �
     → met_from set meet ns is parts ≡ flat_map (λ n. met_from set meet ns (is ++ n ∷ []) more) (counts_from x.first (x.end - x.first))
 unfolding met_from
 from_first set meet ns is parts more part x e g = ap (met_from set meet ns is) e ∙ ap (flat_map (λ n. met_from set meet ns (is ++ n ∷ []) more)) (sym g)
-
--- the same where they close
-pub none_more_closes : (r : Reaction) (ns : List Key) (is : List ℕ) → CanCloseFrom r ns is [] → (ks : List Key) → at_numbers ns is ≡ Some ks → CanCloseAt r ks
-unfolding tuples
-none_more_closes r ns is h ks e = h [] ks (inl refl) (ap (at_numbers ns) (append-nil is) ∙ e)
-
-pub one_more_closes : (r : Reaction) (ns : List Key) (is js : List ℕ) (part : ℕ) (more : List ℕ) (x : Range) (n : ℕ) → CanCloseFrom r ns is (part ∷ more) → in_range x ≡ numbers_over (λ (k : Key). k.legs) ns part → x.first ≤ n → n < x.end → js ≡ is ++ n ∷ [] → CanCloseFrom r ns js more
-unfolding tuples
-one_more_closes r ns is js part more x n h e l g q ts ks i a =
-    h (n ∷ ts) ks
-    (in_flat_map (λ m. Rattle.std.proofs.Common.map (λ us. m ∷ us) (tuples (λ (k : Key). k.legs) ns more)) n (n ∷ ts) (numbers_over (λ (k : Key). k.legs) ns part)
-    (subst (In n) e (in_from x.first (x.end - x.first) n l (omega arith)))
-    (in_map (λ us. n ∷ us) ts (tuples (λ (k : Key). k.legs) ns more) i))
-    (ap (at_numbers ns) (sym (append_assoc is (n ∷ []) ts)) ∙ ap (λ (us : List ℕ). at_numbers ns (us ++ ts)) (sym q) ∙ a)

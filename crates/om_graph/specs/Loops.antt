@@ -138,9 +138,12 @@ CanJoinAt r ks v (Some f) =
 abbrev pub CanMeet : Reaction → List Key → Type 0
 CanMeet r ks = (m : Meeting) → IsMeeting r false ks m → CanJoinAt r ks m.vertex m.up
 
--- and for all nodes of which some are chosen and one of each part is added
+-- it holds for all nodes of which some are chosen and one of each part is added
+abbrev pub AllFrom : (List Key → Type 0) → List Key → List ℕ → List ℕ → Type 0
+AllFrom P ns is parts = (js : List ℕ) (ks : List Key) → In js (tuples (λ (k : Key). k.legs) ns parts) → at_numbers ns (is ++ js) ≡ Some ks → P ks
+
 abbrev pub CanMeetFrom : Reaction → List Key → List ℕ → List ℕ → Type 0
-CanMeetFrom r ns is parts = (js : List ℕ) (ks : List Key) → In js (tuples (λ (k : Key). k.legs) ns parts) → at_numbers ns (is ++ js) ≡ Some ks → CanMeet r ks
+CanMeetFrom r = AllFrom (CanMeet r)
 
 -- and over all splits of a set
 abbrev pub CanMeetOver : Reaction → List Key → ℕ → Type 0
@@ -154,7 +157,7 @@ abbrev pub CanCloseAt : Reaction → List Key → Type 0
 CanCloseAt r ks = (m : Meeting) → IsMeeting r true ks m → CanClose r ks m.vertex
 
 abbrev pub CanCloseFrom : Reaction → List Key → List ℕ → List ℕ → Type 0
-CanCloseFrom r ns is parts = (js : List ℕ) (ks : List Key) → In js (tuples (λ (k : Key). k.legs) ns parts) → at_numbers ns (is ++ js) ≡ Some ks → CanCloseAt r ks
+CanCloseFrom r = AllFrom (CanCloseAt r)
 
 abbrev pub CanCloseOver : Reaction → List Key → Type 0
 CanCloseOver r ns = (n : ℕ) (parts : List ℕ) → (n ≡ 3) ⊎ (n ≡ 4) → IsSplit n (all_legs r.scattering.size) parts → CanCloseFrom r ns [] parts
