@@ -44,9 +44,6 @@ list_itself : (xs : List ℕ) → slice_cmp nat_cmp xs xs ≡ Equal
 list_itself [] = refl
 list_itself (x ∷ xs) = ap (λ o. ordering_then o (slice_cmp nat_cmp xs xs)) (nat_equal x x refl) ∙ list_itself xs
 
-list_equal : (xs ys : List ℕ) → xs ≡ ys → slice_cmp nat_cmp xs ys ≡ Equal
-list_equal xs ys e = ap (λ zs. slice_cmp nat_cmp zs ys) e ∙ list_itself ys
-
 -- before by a first part that is as long
 first_part : (c d : ℕ) (xs ys : List ℕ) → length (take c xs) ≡ length (take d ys) → numbers_lt (take c xs) (take d ys) ≡ true → numbers_lt xs ys ≡ true
 unfolding numbers_lt

@@ -37,9 +37,6 @@ module _ (r : Reaction) (closing : Bool) where
   found_at a place met ks ss fs h g e q =
       q ∙ ap₂ (λ (us : List Side) ms. map (filling_at r closing us) ms) e (same_meetings a place met (meetings_of r closing (fields_of ks)) g h ∙ ap (meetings_of r closing) (sym (fields_of_sides ks)))
 
-  pub last_found : (m : Fillings) (ks : List Key) (s : Sides) → AreFillings r closing m → m.last ≡ Some s → listed_sides s ≡ sides_of ks → m.fillings.items ≡ fillings_at r closing (sides_of ks)
-  last_found m ks s h e g = h.last s e ∙ ap (fillings_at r closing) g
-
   pub now_last : (m : Fillings) (ks : List Key) (s : Sides) → AreMeetings r closing m.meetings → m.last ≡ Some s → listed_sides s ≡ sides_of ks → m.fillings.items ≡ fillings_at r closing (sides_of ks) → AreFillings r closing m
   now_last m ks s h e g q = record { meetings = h; last = λ t i. q ∙ ap (fillings_at r closing) (sym g ∙ ap listed_sides (same_Some s t (sym e ∙ i))) }
 
