@@ -13,7 +13,7 @@ use Rattle.om_model.specs.Tree.{Tree, Branches, legs, legs_all, count}
 use Rattle.om_model.specs.Tree.Tree.{leaf, join}
 use Rattle.om_model.specs.Tree.Branches.{none, and}
 use Rattle.om_model.specs.Diagram as diagrams
-use Rattle.om_model.specs.Diagram.{field_of, times_in, in_order, same_numbers, all_in, fits, fits_all, upto}
+use Rattle.om_model.specs.Diagram.{field_of, times_in, in_order, same_numbers, fits, fits_all, upto}
 use Rattle.om_model.specs.Diagrams.{any_in}
 use Rattle.om_model.specs.Parts.{within, others, holds}
 use Rattle.om_model.specs.Keystone.{is_heavy}

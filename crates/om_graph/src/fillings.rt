@@ -1,5 +1,5 @@
 //! What fills the slots of the vertices at which nodes meet.
-ghost use Rattle.std.specs.Prelude.{◌≡◌, ◌≤◌, ◌<◌, ◌++◌, ◌∷◌, [], false, length, map, IsTrue, OnOk, None, Some};
+ghost use Rattle.std.specs.Prelude.{◌≡◌, ◌≤◌, ◌<◌, [], false, length, map, IsTrue, OnOk, None, Some};
 ghost use Rattle.om_graph.specs.Fillings.{AreFillings, AreVertices, entering, filled_at, filling_at, fillings_at, listed_sides, sides_of, upward_part};
 ghost use Rattle.om_graph.specs.Reactions.{reaction_in};
 

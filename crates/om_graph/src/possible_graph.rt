@@ -1,5 +1,5 @@
 //! The possible graph: the walk over the sets, and what closes.
-ghost use Rattle.std.specs.Prelude.{◌≡◌, ◌≤◌, ◌<◌, length, OnOk, IfOk, IfErr, []};
+ghost use Rattle.std.specs.Prelude.{◌≡◌, ◌<◌, IfOk, IfErr, []};
 ghost use Rattle.om_graph.specs.Possible.{Builds};
 ghost use Rattle.om_graph.specs.Reactions.{reaction_in, reaction_of};
 ghost use Rattle.om_graph.specs.SetSearch.{leg_keys};

@@ -1,5 +1,5 @@
 //! A process over its model, as the vertices of its diagrams see it.
-ghost use Rattle.std.specs.Prelude.{◌≡◌, ◌+◌, ◌*◌, ◌<◌, ◌≤◌, ◌∷◌, ◌&&◌, IfOk, Some, length, slice_get, IsTrue, map, cond, nat_le};
+ghost use Rattle.std.specs.Prelude.{◌≡◌, ◌+◌, ◌*◌, ◌<◌, ◌≤◌, ◌∷◌, ◌&&◌, IfOk, Some, length, cond, nat_le};
 ghost use Rattle.om_legs.specs.declared.leg_set.TheConstants.{MOST_LEGS};
 ghost use Rattle.om_legs.specs.Legs.{set_of, set_of_one, union};
 ghost use Rattle.om_model.specs.Model.{colours_of_vertex};

@@ -1,5 +1,5 @@
 //! Terms, numbered and added in order.
-ghost use Rattle.std.specs.Prelude.{◌≡◌, ℕ, ◌≤◌, map, All, OnOk, IfErr, IfOk};
+ghost use Rattle.std.specs.Prelude.{◌≡◌, ℕ, ◌≤◌, map, All, OnOk, IfErr};
 ghost use Rattle.om_graph.specs.Caches.{StandLast};
 ghost use Rattle.om_graph.specs.Loops.{chosen_nodes, fused_found};
 ghost use Rattle.om_graph.specs.Possible.{key_lt, nodes_at, state_of};

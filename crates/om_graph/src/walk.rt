@@ -1,5 +1,5 @@
 //! The walk over the sets of legs that lie away from the keystone, those of fewer legs first.
-ghost use Rattle.std.specs.Prelude.{◌≡◌, ◌&&◌, eqb, ◌∷◌, [], ◌≤◌, ◌<◌, length, OnOk, false, true};
+ghost use Rattle.std.specs.Prelude.{◌≡◌, ◌&&◌, eqb, ◌∷◌, [], ◌<◌, OnOk, false, true};
 ghost use Rattle.om_graph.specs.Fillings.{AreFillings};
 ghost use Rattle.om_graph.specs.Reactions.{reaction_in};
 ghost use Rattle.om_graph.specs.SetSearch.{outward_sets, set_at, sets_of_size};

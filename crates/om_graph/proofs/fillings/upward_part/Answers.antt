@@ -1,4 +1,4 @@
-use Rattle.std.proofs.Common.{◌≡◌, ℕ, map, ap, ap₂, sym, ◌∙◌}
+use Rattle.std.proofs.Common.{ℕ, ap, ap₂, ◌∙◌}
 use Rattle.om_legs.specs.Legs.{holds}
 use Rattle.om_model.specs.Model.{anti_field}
 use Rattle.om_model.specs.Parts.{first_from, others}
