@@ -1,11 +1,8 @@
 -- What the code of a graph gives, and how many slots it has.
-use Rattle.std.proofs.Common.{◌≡◌, ◌≤◌, List, [], ◌∷◌, length, map, sym, ◌∙◌, ap, subst}
-use Rattle.om_ring.specs.Ops.{Ops, Laws}
-use Rattle.om_ring.specs.Sums.{sum_over}
+use Rattle.std.proofs.Common.{◌≡◌, ◌≤◌, length, map, sym, ◌∙◌, ap, subst}
 use Rattle.om_code.specs.Spans.{width}
 use Rattle.om_code.specs.SlotPlans.{first_fit, slots_used}
 use Rattle.om_code.specs.Registers.{run, start}
-use Rattle.om_emit.specs.NodeCode.{added, gathered}
 use Rattle.om_code.specs.Ops.{step_of}
 use Rattle.om_emit.specs.GraphCode.{register_lines}
 use Rattle.om_emit.specs.Laws.{CodeGivesSums, CodesHaveFewestSlots}
@@ -24,13 +21,3 @@ codes_have_fewest_slots model process graph code c =
     let lines = register_lines model (length process.legs) graph in
     let e : code.slots ≡ width lines = c.slots ∙ (first_fit-narrow lines).used in
     record { width = e; fewest = λ plan p. subst (λ n. n ≤ slots_used lines plan) (sym e) (width_needed lines plan p) }
-
--- waves that gather one after the other are their sum, in each component
-module _ {E : Type 0} (o : Ops E) (l : Laws o) {W : Type 0} (plus : W → W → W) (part : W → E) (adds : (x y : W) → part (plus x y) ≡ o.plus (part x) (part y)) where
-  added_is_sum : (x : W) (ys : List W) → part (added plus x ys) ≡ o.plus (part x) (sum_over o ys part)
-  added_is_sum x [] = sym (l.plus_zero (part x))
-  added_is_sum x (y ∷ ys) = added_is_sum (plus x y) ys ∙ ap (λ e. o.plus e (sum_over o ys part)) (adds x y) ∙ l.plus_assoc (part x) (part y) (sum_over o ys part)
-
-  pub gathered_is_sum : (blank : W) (xs : List W) → part blank ≡ o.zero → part (gathered plus blank xs) ≡ sum_over o xs part
-  gathered_is_sum blank [] e = e
-  gathered_is_sum blank (x ∷ xs) e = added_is_sum x xs

@@ -32,6 +32,3 @@ module _ (den : Key → ℕ) (nodes : List Key) (terms : List Term) where
   pub nodes_end : (k : ℕ) (left : List Term) (old : List Instr) (all : List Op) → length nodes ≤ k → map op_of old ++ walk_ops den k (drop k nodes) left ≡ all → map op_of old ≡ all
   unfolding walk_ops
   nodes_end k left old all l h = sym (append-nil (map op_of old)) ∙ ap (λ ns. map op_of old ++ walk_ops den k ns left) (sym (drop_all k nodes l)) ∙ h
-
-pub nodes_start : (den : Key → ℕ) (nodes : List Key) (terms : List Term) (old : List Instr) → old ≡ [] → map op_of old ++ walk_ops den 0 nodes terms ≡ walk_ops den 0 nodes terms
-nodes_start den nodes terms old e = ap (λ xs. map op_of xs ++ walk_ops den 0 nodes terms) e

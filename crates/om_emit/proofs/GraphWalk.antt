@@ -16,10 +16,6 @@ unfolding terms_at
 none_at k j [] o l = refl
 none_at k j (t ∷ ts) o l = ap (λ b. cond b (t ∷ filter (λ t. eqb t.node k) ts) (filter (λ t. eqb t.node k) ts)) (ne_eqb t.node k (let a = o.0 in λ (e : t.node ≡ k). omega arith)) ∙ none_at k t.node ts o.1 (let a = o.0 in omega arith)
 
-weaker : (k j : ℕ) (ts : List Term) → k ≤ j → AreInOrder j ts → AreInOrder k ts
-weaker k j [] l o = tt
-weaker k j (t ∷ ts) l o = (let a = o.0 in omega arith, o.1)
-
 front-is : (k : ℕ) (ts : List Term) → AreInOrder k ts → front k ts ≡ terms_at ts k
 unfolding front terms_at
 front-is k [] o = refl

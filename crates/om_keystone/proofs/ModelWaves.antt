@@ -1,5 +1,5 @@
 -- The wave functions of a model, with their signs, by keys.
-use Rattle.std.proofs.Common.{◌≡◌, ℕ, List, [], ◌∷◌, map, Bool, true, false, not, refl, ap, ap₂, sym, ◌∙◌}
+use Rattle.std.proofs.Common.{◌≡◌, ℕ, List, [], ◌∷◌, map, Bool, true, false, refl, ap, ap₂, sym, ◌∙◌}
 use Rattle.om_ring.specs.Ops.{Ops, Laws, signed}
 use Rattle.om_ring.specs.Sums.{sum_over}
 use Rattle.om_ring.proofs.RingLemmas.{minus_times, times_minus, minus_minus}
@@ -38,10 +38,6 @@ unfolding part
 field_is s t = refl
 
 module _ {E : Type 0} (o : Ops E) (l : Laws o) where
-  signed_minus : (b : Bool) (x : E) → signed o (not b) x ≡ o.minus (signed o b x)
-  signed_minus true x = sym (minus_minus o l x)
-  signed_minus false x = refl
-
   signed_times : (a b : Bool) (x y : E) → o.times (signed o a x) (signed o b y) ≡ signed o (xor a b) (o.times x y)
   signed_times false false x y = refl
   signed_times false true x y = times_minus o l x y
