@@ -16,7 +16,6 @@ use Rattle.om_model.specs.Lines.{Lines}
 use Rattle.om_model.specs.Answer.{Answer, IsAnswer}
 use Rattle.om_model.specs.Answer.Answer.{unbalanced, pole, values}
 use Rattle.om_ring.proofs.Members.{in_flat_map, from_flat_map, different_flat_map}
-use Rattle.om_model.proofs.Rising.{numbers_order}
 use Rattle.om_model.specs.Opened.{Opened}
 use Rattle.om_graph.specs.Fusion.{Fusion}
 use Rattle.om_keystone.specs.InDiagrams.{TermOf, KeyTermOf, IsMet, IsKeyMet}
@@ -26,6 +25,7 @@ use Rattle.om_model.proofs.FormSums.{rising_different}
 use Rattle.std.proofs.lemmas.Bool.{eqb-true, eq-eqb}
 use Rattle.om_graph.specs.Search.{place}
 use Rattle.om_graph.proofs.Places.{place_gets}
+use Rattle.om_graph.proofs.Keystones.{numbered_order}
 use Rattle.om_graph.specs.Graph.{Numbered, at_numbers, numbered_lt}
 use Rattle.om_keystone.specs.CanonicalGraph.{IsMetAt, IsKeyMetAt, IsCanonicalGraph}
 use Rattle.om_keystone.proofs.KeyedWaves.{KeyRules, meet, keyed_term_value, keyed_key_value, AreKeyedWaves}
@@ -35,17 +35,19 @@ use Rattle.om_keystone.proofs.NumberedAnswer.{term_value_at, key_value_at, AreWa
 use Rattle.om_keystone.specs.NodeWaves.{keys_at, indices_at, meet_at}
 use Rattle.om_keystone.proofs.Reached.{prune_is_exact}
 use Rattle.om_keystone.proofs.Grown.{same_by_is, is_same_by}
-use Rattle.om_keystone.proofs.Numbers.{keys_are, At, at_of, of_at, at_all, number_once}
+use Rattle.om_keystone.proofs.Numbers.{keys_are, At, at_of, of_at, at_all, at_once, number_once}
 use Rattle.om_graph.proofs.SetNodes.{number_of, in_by_number}
 use Rattle.om_keystone.proofs.Numbers.At.{at_none, at_more}
 use Rattle.om_keystone.proofs.GraphLaw.{are_terms, are_keys, is_answer}
 
-numbered_irreflexive : (x : Numbered) → numbered_lt x x ≡ false
-unfolding numbered_lt
-numbered_irreflexive x = numbers_order.irreflexive (x.made ∷ x.vertex ∷ x.choice ∷ x.branches)
+pub numbered_differ : (xs : List Numbered) → Rising numbered_lt xs → Different xs
+numbered_differ = rising_different numbered_lt numbered_order.irreflexive
 
-numbered_differ : (xs : List Numbered) → Rising numbered_lt xs → Different xs
-numbered_differ = rising_different numbered_lt numbered_irreflexive
+pub same_numbered : (x y : Numbered) → x.made ≡ y.made → x.vertex ≡ y.vertex → x.choice ≡ y.choice → x.branches ≡ y.branches → x ≡ y
+same_numbered x y a b c d =
+    ap (λ (n : ℕ). let z : Numbered = record { made = n; vertex = x.vertex; choice = x.choice; branches = x.branches } in z) a
+    ∙ ap₂ (λ (v w : ℕ). let z : Numbered = record { made = y.made; vertex = v; choice = w; branches = x.branches } in z) b c
+    ∙ ap (λ (is : List ℕ). let z : Numbered = record { made = y.made; vertex = y.vertex; choice = y.choice; branches = is } in z) d
 
 -- two sums over what lists are made of
 sum_both : {A B E : Type 0} (o : Ops E) (f : B → E) (g : A → E) (to : A → List B) (q : B → Bool) (r : A → Bool) (xs : List A) → ((x : A) → In x xs → (b : B) × (to x ≡ b ∷ []) × (q b ≡ r x) × (r x ≡ true → f b ≡ g x))
@@ -106,48 +108,33 @@ module _ {K F : Type 0} (p : Fusion K F) (lt : K → K → Bool) (order : IsOrde
       by (inl q) = q
       by (inr j) = absurd j
 
-  at_once : {is js : List ℕ} {ks : List K} → At ns is ks → At ns js ks → is ≡ js
-  at_once at_none at_none = refl
-  at_once (at_more {n = m} {y = y} e a) (at_more {n = n} f b) = ap₂ ◌∷◌ (number_once lt order ns graph.nodes_rise m n y e f) (at_once a b)
-
-  same_branches : (x y : Numbered) (ks us : List K) → at_numbers ns x.branches ≡ Some ks → at_numbers ns y.branches ≡ Some us → ks ≡ us → x.branches ≡ y.branches
-  same_branches x y ks us e g q = at_once (at_of ns x.branches ks e) (subst (At ns y.branches) (sym q) (at_of ns y.branches us g))
-
-  same_numbered : (x y : Numbered) → x.made ≡ y.made → x.vertex ≡ y.vertex → x.choice ≡ y.choice → x.branches ≡ y.branches → x ≡ y
-  same_numbered x y a b c d =
-      ap (λ (n : ℕ). let z : Numbered = record { made = n; vertex = x.vertex; choice = x.choice; branches = x.branches } in z) a
-      ∙ ap₂ (λ (v w : ℕ). let z : Numbered = record { made = y.made; vertex = v; choice = w; branches = x.branches } in z) b c
-      ∙ ap (λ (is : List ℕ). let z : Numbered = record { made = y.made; vertex = y.vertex; choice = y.choice; branches = is } in z) d
-
   one_differs : {A : Type 0} (y : A) (us : List A) → us ≡ y ∷ [] → Different us
   one_differs y us e = subst Different (sym e) ((λ i. i), tt)
 
   exact : PruneIsExact p
   exact = prune_is_exact p ok.has_field rank ok
 
+  -- terms or keystone terms differ, where their numbers stand for members of `ms` and for nodes
+  by_numbers_differ : {M T : Type 0} (le : M → M → Bool) → IsOrder le → (ms : List M) → Rising le ms → (made : T → M) (vertex choice : T → ℕ) (branches : T → List K) (to : Numbered → List T) (zs : List Numbered) → Rising numbered_lt zs
+      → ((x : Numbered) → In x zs → (t : T) × (to x ≡ t ∷ []) × (slice_get ms x.made ≡ Some (made t)) × (x.vertex ≡ vertex t) × (x.choice ≡ choice t) × (at_numbers ns x.branches ≡ Some (branches t))) → Different (flat_map to zs)
+  by_numbers_differ le t ms rise made vertex choice branches to zs rises stand = different_flat_map to zs (numbered_differ zs rises)
+      (λ x i. let u = stand x i in one_differs u.0 (to x) u.1)
+      (λ x z y i j a b.
+      let u = stand x i in
+      let w = stand z j in
+      let q : u.0 ≡ w.0 = sym (in_one y u.0 (to x) u.1 a) ∙ in_one y w.0 (to z) w.1 b in
+      same_numbered x z (number_once le t ms rise x.made z.made (made w.0) (u.2 ∙ ap (λ s. Some (made s)) q) w.2) (u.3 ∙ ap vertex q ∙ sym w.3) (u.4 ∙ ap choice q ∙ sym w.4)
+      (at_once lt order ns graph.nodes_rise (at_of ns x.branches (branches u.0) u.5) (subst (At ns z.branches) (sym (ap branches q)) (at_of ns z.branches (branches w.0) w.5))))
+
   terms_differ : Different xs
   unfolding xs keyed
-  terms_differ = different_flat_map term_at ts (numbered_differ ts graph.terms_rise)
-      (λ x i. let m = (graph.terms x).0 i in one_differs (keyed x m) (term_at x) (term_is x m))
-      (λ x z y i j a b.
-      let m = (graph.terms x).0 i in
-      let w = (graph.terms z).0 j in
-      let q : keyed x m ≡ keyed z w = sym (in_one y (keyed x m) (term_at x) (term_is x m) a) ∙ in_one y (keyed z w) (term_at z) (term_is z w) b in
-      let node : m.node ≡ w.node = ap (λ (t : TermOf K). t.node) q in
-      same_numbered x z (number_once lt order ns graph.nodes_rise x.made z.made w.node (m.is_node ∙ ap Some node) w.is_node) (ap (λ (t : TermOf K). t.vertex) q) (ap (λ (t : TermOf K). t.choice) q)
-      (same_branches x z m.branches w.branches m.are_branches w.are_branches (ap (λ (t : TermOf K). t.branches) q)))
+  terms_differ = by_numbers_differ lt order ns graph.nodes_rise (λ (t : TermOf K). t.node) (λ t. t.vertex) (λ t. t.choice) (λ t. t.branches) term_at ts graph.terms_rise
+      (λ x i. let m = (graph.terms x).0 i in (keyed x m, term_is x m, m.is_node, refl, refl, m.are_branches))
 
   keys_differ : Different kys
   unfolding kys keyed_key
-  keys_differ = different_flat_map key_at ys (numbered_differ ys graph.keys_rise)
-      (λ x i. let m = (graph.keys x).0 i in one_differs (keyed_key x m) (key_at x) (key_is x m))
-      (λ x z y i j a b.
-      let m = (graph.keys x).0 i in
-      let w = (graph.keys z).0 j in
-      let q : keyed_key x m ≡ keyed_key z w = sym (in_one y (keyed_key x m) (key_at x) (key_is x m) a) ∙ in_one y (keyed_key z w) (key_at z) (key_is z w) b in
-      let flow : m.flow ≡ w.flow = ap (λ (t : KeyTermOf K F). t.flow) q in
-      same_numbered x z (number_once before flow_order ws graph.flows_rise x.made z.made w.flow (m.is_flow ∙ ap Some flow) w.is_flow) (ap (λ (t : KeyTermOf K F). t.vertex) q) (ap (λ (t : KeyTermOf K F). t.choice) q)
-      (same_branches x z m.branches w.branches m.are_branches w.are_branches (ap (λ (t : KeyTermOf K F). t.branches) q)))
+  keys_differ = by_numbers_differ before flow_order ws graph.flows_rise (λ (t : KeyTermOf K F). t.flow) (λ t. t.vertex) (λ t. t.choice) (λ t. t.branches) key_at ys graph.keys_rise
+      (λ y i. let m = (graph.keys y).0 i in (keyed_key y m, key_is y m, m.is_flow, refl, refl, m.are_branches))
 
   node_in : (k : K) → Reached p k → In k ns
   node_in k r = (graph.nodes k).1 ((exact.nodes k).1 r)

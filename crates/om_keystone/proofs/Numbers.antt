@@ -75,6 +75,10 @@ module _ {A : Type 0} (lt : A → A → Bool) (o : IsOrder lt) (xs : List A) (r 
     | inr b ↦ elim b [ inl q ↦ q | inr a ↦ absurd (true≢false (sym (rising_at lt xs r n m x x g e a) ∙ o.irreflexive x)) ]
   ]
 
+  pub at_once : {is js : List ℕ} {ys : List A} → At xs is ys → At xs js ys → is ≡ js
+  at_once at_none at_none = refl
+  at_once (at_more {n = m} {y = y} e a) (at_more {n = n} f b) = ap₂ ◌∷◌ (number_once m n y e f) (at_once a b)
+
 -- where a node that is kept stands
 pub record KeptAt {A : Type 0} (c n : ℕ) (m : List Bool) (xs : List A) (x : A) : Type 0 where
   pub place : ℕ
