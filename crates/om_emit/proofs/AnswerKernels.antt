@@ -31,6 +31,17 @@ use Rattle.om_machine.proofs.Each.{Each}
 use Rattle.om_emit.proofs.AnswerNests.{nest, nest-ext, times-nest}
 use Rattle.om_emit.proofs.AnswerSlots.{part_in, key_in}
 
+of_three : {A : Type 0} (P : List A → Type 0) → ((a b c : A) → P (a ∷ b ∷ c ∷ [])) → (xs : List A) → length xs ≡ 3 → P xs
+of_three P h (a ∷ b ∷ c ∷ []) e = h a b c
+of_three P h [] e = absurd (omega (arith, e))
+of_three P h (a ∷ []) e = absurd (omega (arith, e))
+of_three P h (a ∷ b ∷ []) e = absurd (omega (arith, e))
+of_three P h (a ∷ b ∷ c ∷ d ∷ xs) e = absurd (omega (arith, e))
+
+of_four : {A : Type 0} (P : List A → Type 0) → ((a b c d : A) → P (a ∷ b ∷ c ∷ d ∷ [])) → (xs : List A) → length xs ≡ 4 → P xs
+of_four P h [] e = absurd (omega (arith, e))
+of_four P h (a ∷ xs) e = of_three (λ ys. P (a ∷ ys)) (h a) xs (omega (arith, e))
+
 module _ {E : Type 0} (o : Ops E) where
   -- what enters brings its wave; where the edge leads upwards, the one index n
   abbrev pub summand_in : ℕ → Option (Wave E) → Summand E
@@ -214,58 +225,34 @@ module _ {E : Type 0} (o : Ops E) (l : Laws o) where
       abbrev AreMany : List (EnteringWave E) → Type 0
       AreMany qs = (length qs ≡ 3) ⊎ (length qs ≡ 4)
 
-      value-is : (qs : List (EnteringWave E)) (is : List ℕ) → AreMany qs → Each (HasMembers s.size) qs → length is ≡ length qs
-          → vertex_value s v ch qs is ≡ o.times o.imag (entry_at vx.structure reading (factors_of o (t.factors v)) qs (listed vx.structure reading (factors_of o (t.factors v)) 0 is))
-      value-is (a ∷ b ∷ d ∷ []) (i ∷ j ∷ k ∷ []) m h e = value-three a b d h.0 h.1.0 h.1.1.0 i j k
-      value-is (a ∷ b ∷ d ∷ f ∷ []) (i ∷ j ∷ k ∷ x ∷ []) m h e = value-four a b d f h.0 h.1.0 h.1.1.0 h.1.1.1.0 i j k x
-      value-is (a ∷ b ∷ d ∷ []) [] m h e = absurd (omega (arith, e))
-      value-is (a ∷ b ∷ d ∷ []) (i ∷ []) m h e = absurd (omega (arith, e))
-      value-is (a ∷ b ∷ d ∷ []) (i ∷ j ∷ []) m h e = absurd (omega (arith, e))
-      value-is (a ∷ b ∷ d ∷ []) (i ∷ j ∷ k ∷ x ∷ is) m h e = absurd (omega (arith, e))
-      value-is (a ∷ b ∷ d ∷ f ∷ []) [] m h e = absurd (omega (arith, e))
-      value-is (a ∷ b ∷ d ∷ f ∷ []) (i ∷ []) m h e = absurd (omega (arith, e))
-      value-is (a ∷ b ∷ d ∷ f ∷ []) (i ∷ j ∷ []) m h e = absurd (omega (arith, e))
-      value-is (a ∷ b ∷ d ∷ f ∷ []) (i ∷ j ∷ k ∷ []) m h e = absurd (omega (arith, e))
-      value-is (a ∷ b ∷ d ∷ f ∷ []) (i ∷ j ∷ k ∷ x ∷ y ∷ is) m h e = absurd (omega (arith, e))
-      value-is [] is (inl m) h e = absurd (omega (arith, m))
-      value-is [] is (inr m) h e = absurd (omega (arith, m))
-      value-is (a ∷ []) is (inl m) h e = absurd (omega (arith, m))
-      value-is (a ∷ []) is (inr m) h e = absurd (omega (arith, m))
-      value-is (a ∷ b ∷ []) is (inl m) h e = absurd (omega (arith, m))
-      value-is (a ∷ b ∷ []) is (inr m) h e = absurd (omega (arith, m))
-      value-is (a ∷ b ∷ d ∷ f ∷ g ∷ qs) is (inl m) h e = absurd (omega (arith, m))
-      value-is (a ∷ b ∷ d ∷ f ∷ g ∷ qs) is (inr m) h e = absurd (omega (arith, m))
+      many_of : (P : List (EnteringWave E) → Type 0) → ((a b d : EnteringWave E) → P (a ∷ b ∷ d ∷ [])) → ((a b d f : EnteringWave E) → P (a ∷ b ∷ d ∷ f ∷ [])) → (qs : List (EnteringWave E)) → AreMany qs → P qs
+      many_of P three four qs (inl m) = of_three P three qs m
+      many_of P three four qs (inr m) = of_four P four qs m
+
+      abbrev ValueIs : List (EnteringWave E) → List ℕ → Type 0
+      ValueIs qs is = vertex_value s v ch qs is ≡ o.times o.imag (entry_at vx.structure reading (factors_of o (t.factors v)) qs (listed vx.structure reading (factors_of o (t.factors v)) 0 is))
+
+      value-is : (qs : List (EnteringWave E)) → AreMany qs → Each (HasMembers s.size) qs → (is : List ℕ) → length is ≡ length qs → ValueIs qs is
+      value-is = many_of (λ qs. Each (HasMembers s.size) qs → (is : List ℕ) → length is ≡ length qs → ValueIs qs is)
+          (λ a b d h. of_three (ValueIs (a ∷ b ∷ d ∷ [])) (value-three a b d h.0 h.1.0 h.1.1.0))
+          (λ a b d f h. of_four (ValueIs (a ∷ b ∷ d ∷ f ∷ [])) (value-four a b d f h.0 h.1.0 h.1.1.0 h.1.1.1.0))
 
       index-is : (n : ℕ) (qs : List (EnteringWave E)) → AreMany qs → open_edges o qs ≡ 1 → IndexSumIsNested vx.structure reading (factors_of o (t.factors v)) n qs
-      index-is n (a ∷ b ∷ d ∷ []) m h = index-three vx.structure reading (factors_of o (t.factors v)) n a.legs a.field b.legs b.field d.legs d.field a.wave b.wave d.wave h
-      index-is n (a ∷ b ∷ d ∷ f ∷ []) m h = index-four vx.structure reading (factors_of o (t.factors v)) n a.legs a.field b.legs b.field d.legs d.field f.legs f.field a.wave b.wave d.wave f.wave h
-      index-is n [] (inl m) h = absurd (omega (arith, m))
-      index-is n [] (inr m) h = absurd (omega (arith, m))
-      index-is n (a ∷ []) (inl m) h = absurd (omega (arith, m))
-      index-is n (a ∷ []) (inr m) h = absurd (omega (arith, m))
-      index-is n (a ∷ b ∷ []) (inl m) h = absurd (omega (arith, m))
-      index-is n (a ∷ b ∷ []) (inr m) h = absurd (omega (arith, m))
-      index-is n (a ∷ b ∷ d ∷ f ∷ g ∷ qs) (inl m) h = absurd (omega (arith, m))
-      index-is n (a ∷ b ∷ d ∷ f ∷ g ∷ qs) (inr m) h = absurd (omega (arith, m))
+      index-is n = many_of (λ qs. open_edges o qs ≡ 1 → IndexSumIsNested vx.structure reading (factors_of o (t.factors v)) n qs)
+          (λ a b d. index-three vx.structure reading (factors_of o (t.factors v)) n a.legs a.field b.legs b.field d.legs d.field a.wave b.wave d.wave)
+          (λ a b d f. index-four vx.structure reading (factors_of o (t.factors v)) n a.legs a.field b.legs b.field d.legs d.field f.legs f.field a.wave b.wave d.wave f.wave)
 
       full-is : (n : ℕ) (qs : List (EnteringWave E)) → AreMany qs → open_edges o qs ≡ 0 → FullSumIsNested vx.structure reading (factors_of o (t.factors v)) n qs
-      full-is n (a ∷ b ∷ d ∷ []) m h = full-three vx.structure reading (factors_of o (t.factors v)) n a.legs a.field b.legs b.field d.legs d.field a.wave b.wave d.wave h
-      full-is n (a ∷ b ∷ d ∷ f ∷ []) m h = full-four vx.structure reading (factors_of o (t.factors v)) n a.legs a.field b.legs b.field d.legs d.field f.legs f.field a.wave b.wave d.wave f.wave h
-      full-is n [] (inl m) h = absurd (omega (arith, m))
-      full-is n [] (inr m) h = absurd (omega (arith, m))
-      full-is n (a ∷ []) (inl m) h = absurd (omega (arith, m))
-      full-is n (a ∷ []) (inr m) h = absurd (omega (arith, m))
-      full-is n (a ∷ b ∷ []) (inl m) h = absurd (omega (arith, m))
-      full-is n (a ∷ b ∷ []) (inr m) h = absurd (omega (arith, m))
-      full-is n (a ∷ b ∷ d ∷ f ∷ g ∷ qs) (inl m) h = absurd (omega (arith, m))
-      full-is n (a ∷ b ∷ d ∷ f ∷ g ∷ qs) (inr m) h = absurd (omega (arith, m))
+      full-is n = many_of (λ qs. open_edges o qs ≡ 0 → FullSumIsNested vx.structure reading (factors_of o (t.factors v)) n qs)
+          (λ a b d. full-three vx.structure reading (factors_of o (t.factors v)) n a.legs a.field b.legs b.field d.legs d.field a.wave b.wave d.wave)
+          (λ a b d f. full-four vx.structure reading (factors_of o (t.factors v)) n a.legs a.field b.legs b.field d.legs d.field f.legs f.field a.wave b.wave d.wave f.wave)
 
       turned-in : (n : ℕ) (qs : List (EnteringWave E)) → AreMany qs → Each (HasMembers s.size) qs
           → o.times o.imag (nested n qs (λ is. entry_at vx.structure reading (factors_of o (t.factors v)) qs (listed vx.structure reading (factors_of o (t.factors v)) n is)))
           ≡ nested n qs (vertex_value s v ch qs)
       turned-in n qs m h =
           times-nest o l key_in (indices_in o n) (weight_in o n) o.imag qs _
-          ∙ nest-ext o l key_in (indices_in o n) (weight_in o n) qs _ (vertex_value s v ch qs) (λ is e. sym (value-is qs is m h e))
+          ∙ nest-ext o l key_in (indices_in o n) (weight_in o n) qs _ (vertex_value s v ch qs) (λ is e. sym (value-is qs m h is e))
 
       -- i times the index sum of a vertex, as a sum over what enters
       pub index_sum-nested : (n : ℕ) (qs : List (EnteringWave E)) → AreMany qs → Each (HasMembers s.size) qs → open_edges o qs ≡ 1
