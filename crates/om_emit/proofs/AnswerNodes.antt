@@ -56,7 +56,6 @@ use Rattle.om_code.specs.declared.slots.Held.{Held}
 use Rattle.om_code.specs.Contents.{Content, code_meaning, empty_content, moved_content, plus_content, wave_over}
 use Rattle.om_code.specs.Meaning.{edge_of_den, factor_at}
 use Rattle.om_code.specs.Slots as slots
-use Rattle.om_code.specs.Slots.{nodes_of}
 use Rattle.om_code.specs.Waves.{Incoming, momentum_behind, plus_wave, wave_of, wave_of_leg}
 use Rattle.om_machine.specs.Events.{IsMadeFor, kind_of_spin}
 use Rattle.om_machine.proofs.ReadyWalk.{leg-kind, made-kind}

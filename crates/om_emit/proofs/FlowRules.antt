@@ -55,7 +55,7 @@ use Rattle.om_emit.proofs.GraphHelds.{as_many_legs}
 use Rattle.om_emit.proofs.HeldFinds.{and_both}
 use Rattle.om_emit.proofs.RowsPlain.{all_rows}
 use Rattle.om_emit.proofs.LineEnds.{IsExact}
-use Rattle.om_emit.proofs.NodeLines.{AreInSlots, begins_at, branch_fields, branches_exact, in_their_slots, of_branches, same_exact, slots_exact}
+use Rattle.om_emit.proofs.NodeLines.{begins_at, branch_fields, branches_exact, in_their_slots, of_branches, same_exact, slots_exact}
 use Rattle.om_emit.proofs.NodeLines as lines
 
 -- the ends of a flow: exact, and none of two lines

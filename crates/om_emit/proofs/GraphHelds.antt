@@ -31,7 +31,7 @@ use Rattle.om_graph.specs.Fusion.{HasKey}
 use Rattle.om_graph.specs.Possible.{unsigned, unsigned_key}
 use Rattle.om_graph.specs.Reactions.{reaction_of}
 use Rattle.om_graph.specs.TreeKeys.{IsReaction}
-use Rattle.om_graph.specs.Vertices.{Reaction, Closes, Fuses, fusion, is_outward, sets_of}
+use Rattle.om_graph.specs.Vertices.{Reaction, Closes, Fuses, fusion, is_outward}
 use Rattle.om_graph.specs.Vertices as vertices
 use Rattle.om_graph.proofs.HaveReactions.{well_formed_have_reactions}
 use Rattle.om_graph.proofs.PartSizes.{fused_some}

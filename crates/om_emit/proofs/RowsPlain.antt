@@ -30,7 +30,7 @@ use Rattle.om_graph.specs.declared.Key.{Key}
 use Rattle.om_graph.specs.Fusion.{HasKey}
 use Rattle.om_graph.specs.Reactions.{reaction_of}
 use Rattle.om_graph.specs.TreeKeys.{IsReaction}
-use Rattle.om_graph.specs.Vertices.{Fuses, Reaction, fusion}
+use Rattle.om_graph.specs.Vertices.{Reaction, fusion}
 use Rattle.om_graph.specs.Vertices as vertices
 use Rattle.om_graph.proofs.HaveReactions.{well_formed_have_reactions}
 use Rattle.om_graph.proofs.KeysOfSides.{side_of}

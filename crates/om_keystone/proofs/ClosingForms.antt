@@ -9,7 +9,7 @@ use Rattle.om_model.specs.Theory.{Scattering}
 use Rattle.om_model.specs.Tree.{Branches, legs, legs_all, count}
 use Rattle.om_model.specs.Tree.Branches.{none, and}
 use Rattle.om_model.specs.Diagram as diagrams
-use Rattle.om_model.specs.Diagram.{times_in, in_order, same_numbers, all_in, fits_all, upto}
+use Rattle.om_model.specs.Diagram.{times_in, same_numbers, all_in, fits_all}
 use Rattle.om_model.specs.Diagrams.{any_in, counts}
 use Rattle.om_model.specs.Parts.{within}
 use Rattle.om_model.specs.Opened.{Opened}
