@@ -12,10 +12,10 @@ use Rattle.om_graph.specs.declared.Graph.{Graph}
 use Rattle.om_code.specs.Slots.{nodes_of}
 use Rattle.om_code.specs.SlotPlans.{IsSlotPlan}
 use Rattle.om_code.specs.Registers as step
-use Rattle.om_code.specs.Registers.{Step, run, start, named_by, lines_of, placed, finds}
+use Rattle.om_code.specs.Registers.{run, start, named_by, lines_of, placed}
 use Rattle.om_emit.specs.NodeCode.{Fusion, Node, leg, inner, Keystone, node_code, nodes_code, graph_code, IsBuiltBelow, AreBuilt, gathered, IsWaveOf, AreWaves, keystone_sums, IsGraphOf}
 use Rattle.om_code.specs.Ops.{Op, load, fuse, prop, key, named_in, placed_op, Meaning, step_of}
-use Rattle.om_keystone.specs.Built.{is_inner, terms_at, IsBelow, NodesAreBuilt}
+use Rattle.om_keystone.specs.Built.{is_inner, terms_at, IsBelow, IsBuilt, NodesAreBuilt}
 use Rattle.om_emit.specs.GraphCode.{fuse_op, key_op, node_ops, nodes_ops, den_place, register_ops, register_lines}
 use Rattle.om_emit.specs.NodeContents.{node_content, AreNodeContents, closed_sums}
 use Rattle.om_emit.specs.Laws.{GraphCodeGivesSums, GraphKeepsFinds, GraphCodeKeepsFinds}
@@ -145,38 +145,40 @@ module _ {W S : Type 0} (m : Meaning W S) where
   same_sums wave sums [] = refl
   same_sums wave sums (t ∷ ts) = same_sums wave (m.closed t.flow t.minus t.vertex t.choice (map wave (nodes_of t.branches)) sums) ts
 
-  graph_steps : (model : Model) (n : ℕ) (graph : Graph) → map (step_of m) (register_ops model n graph) ≡ graph_code (nodes_at (den_place model n graph) graph.terms 0 graph.nodes) (map keystone_of graph.keys)
-  unfolding register_ops graph_code
-  graph_steps model n graph =
-      map-append (step_of m) (nodes_ops (den_place model n graph) graph.terms 0 graph.nodes) (map key_op graph.keys)
-      ∙ ap₂ (λ xs ys. xs ++ ys) (nodes_steps (den_place model n graph) graph.terms 0 graph.nodes) (key_steps graph.keys)
+  module _ (model : Model) (n : ℕ) (graph : Graph) where
+    abbrev code_nodes : List (Node W)
+    code_nodes = nodes_at (den_place model n graph) graph.terms 0 graph.nodes
+
+    abbrev code_keys : List (Keystone W S)
+    code_keys = map keystone_of graph.keys
+
+    graph_steps : map (step_of m) (register_ops model n graph) ≡ graph_code code_nodes code_keys
+    unfolding register_ops graph_code
+    graph_steps =
+        map-append (step_of m) (nodes_ops (den_place model n graph) graph.terms 0 graph.nodes) (map key_op graph.keys)
+        ∙ ap₂ (λ xs ys. xs ++ ys) (nodes_steps (den_place model n graph) graph.terms 0 graph.nodes) (key_steps graph.keys)
+
+    code_plan : (plan : ℕ → ℕ) → IsSlotPlan (register_lines model n graph) plan → IsSlotPlan (lines_of (graph_code code_nodes code_keys)) plan
+    code_plan plan p = subst (λ ls. IsSlotPlan ls plan) (sym (named_steps (register_ops model n graph)) ∙ ap lines_of graph_steps) p
+
+    code_closed : IsBuilt graph → AllByRecursion (λ y. AllByRecursion (λ b. b < length code_nodes) y.branches) code_keys
+    code_closed built =
+        let P : ℕ → Type 0 = λ k. AllByRecursion (λ y. AllByRecursion (λ b. b < k) y.branches) code_keys in
+        subst P (sym (length-nodes_at (den_place model n graph) graph.terms 0 graph.nodes)) (keys_closed (length graph.nodes) graph.keys built.keys)
 
 module _ {W S : Type 0} (plus : W → W → W) where
   pub graph_keeps_finds : GraphCodeKeepsFinds W S plus
   graph_keeps_finds blank sums m model n graph plan built p =
-      let den = den_place model n graph in
-      let nodes = nodes_at m den graph.terms 0 graph.nodes in
-      let ys = map (keystone_of m) graph.keys in
-      let same = graph_steps m model n graph in
-      let lines : lines_of (graph_code nodes ys) ≡ register_lines model n graph = ap lines_of (sym same) ∙ named_steps m (register_ops model n graph) in
-      let P : List (List ℕ) → Type 0 = λ ls. IsSlotPlan ls plan in
-      let closed : AllByRecursion (λ y. AllByRecursion (λ b. b < length nodes) y.branches) ys = let Q : ℕ → Type 0 = λ k. AllByRecursion (λ y. AllByRecursion (λ b. b < k) y.branches) ys in subst Q (sym (length-nodes_at m den graph.terms 0 graph.nodes)) (keys_closed m (length graph.nodes) graph.keys built.keys) in
-      let R : List (Step W S) → Type 0 = λ xs. GraphKeepsFinds plus blank sums xs plan in
-      subst R (sym same) (code_keeps_finds plus blank sums nodes ys plan (nodes_built m den graph.terms 0 graph.nodes built.nodes) closed (subst P (sym lines) p))
+      subst (λ xs. GraphKeepsFinds plus blank sums xs plan) (sym (graph_steps m model n graph))
+      (code_keeps_finds plus blank sums (code_nodes m model n graph) (code_keys m model n graph) plan (nodes_built m (den_place model n graph) graph.terms 0 graph.nodes built.nodes) (code_closed m model n graph built) (code_plan m model n graph plan p))
 
   pub graph_code_gives_sums : GraphCodeGivesSums W S plus
   graph_code_gives_sums blank sums m model n graph wave plan built waves p =
-      let den = den_place model n graph in
-      let nodes = nodes_at m den graph.terms 0 graph.nodes in
-      let ys = map (keystone_of m) graph.keys in
-      let same = graph_steps m model n graph in
-      let lines : lines_of (graph_code nodes ys) ≡ register_lines model n graph = ap lines_of (sym same) ∙ named_steps m (register_ops model n graph) in
-      let P : List (List ℕ) → Type 0 = λ ls. IsSlotPlan ls plan in
-      let g : IsGraphOf plus blank nodes ys wave = record {
-        built = nodes_built m den graph.terms 0 graph.nodes built.nodes;
-        closed = let Q : ℕ → Type 0 = λ k. AllByRecursion (λ y. AllByRecursion (λ b. b < k) y.branches) ys in subst Q (sym (length-nodes_at m den graph.terms 0 graph.nodes)) (keys_closed m (length graph.nodes) graph.keys built.keys);
-        waves = nodes_are_waves m den graph.terms plus blank wave 0 graph.nodes waves;
+      let g : IsGraphOf plus blank (code_nodes m model n graph) (code_keys m model n graph) wave = record {
+        built = nodes_built m (den_place model n graph) graph.terms 0 graph.nodes built.nodes;
+        closed = code_closed m model n graph built;
+        waves = nodes_are_waves m (den_place model n graph) graph.terms plus blank wave 0 graph.nodes waves;
       } in
-      ap (λ xs. (run plus xs (start blank sums)).sums) (placed_steps m plan (register_ops model n graph) ∙ ap (map (placed plan)) same)
-      ∙ code_gives_keystones plus blank sums nodes ys wave plan g (subst P (sym lines) p)
+      ap (λ xs. (run plus xs (start blank sums)).sums) (placed_steps m plan (register_ops model n graph) ∙ ap (map (placed plan)) (graph_steps m model n graph))
+      ∙ code_gives_keystones plus blank sums (code_nodes m model n graph) (code_keys m model n graph) wave plan g (code_plan m model n graph plan p)
       ∙ same_sums m wave sums graph.keys
