@@ -77,14 +77,29 @@ module _ (c : Code) where
     pub order : are_in_order 0 hs ≡ true
     pub fields : same_numbers (fields_of hs) (slots_of_vertex c vertex) ≡ true
 
+  abbrev LoadFinds : ℕ → Found Held → Type 0
+  LoadFinds leg (loads g) = (leg ≤ size_of c) × (g ≡ false)
+  LoadFinds leg _ = ⊥
+
+  abbrev FuseFinds : ℕ → ℕ → Found Held → Type 0
+  FuseFinds vertex choice (adds x xs) = FuseKeeps vertex choice (helds_of xs) × (adds_to x (fused_held vertex (helds_of xs)) ≡ true)
+  FuseFinds vertex choice (begins xs) = FuseKeeps vertex choice (helds_of xs)
+  FuseFinds vertex choice _ = ⊥
+
+  abbrev PropFinds : ℕ → Found Held → Type 0
+  PropFinds den (turns x) = (x.0 ≡ true) × (den < length c.dens) × (is_den_of c x.1 (slice_get c.dens den) ≡ true)
+  PropFinds den _ = ⊥
+
+  abbrev KeyFinds : ℕ → ℕ → ℕ → Found Held → Type 0
+  KeyFinds flow vertex choice (closes xs) = KeyKeeps flow vertex choice (helds_of xs)
+  KeyFinds flow vertex choice _ = ⊥
+
   -- an instruction that finds this keeps the rules, but for those on the numbers of slots
   abbrev pub Keeps : Op → Found Held → Type 0
-  Keeps (load to leg) (loads g) = (leg ≤ size_of c) × (g ≡ false)
-  Keeps (fuse to minus vertex choice bs) (adds x xs) = FuseKeeps vertex choice (helds_of xs) × (adds_to x (fused_held vertex (helds_of xs)) ≡ true)
-  Keeps (fuse to minus vertex choice bs) (begins xs) = FuseKeeps vertex choice (helds_of xs)
-  Keeps (prop of den) (turns x) = (x.0 ≡ true) × (den < length c.dens) × (is_den_of c x.1 (slice_get c.dens den) ≡ true)
-  Keeps (key flow minus vertex choice bs) (closes xs) = KeyKeeps flow vertex choice (helds_of xs)
-  Keeps _ _ = ⊥
+  Keeps (load to leg) f = LoadFinds leg f
+  Keeps (fuse to minus vertex choice bs) f = FuseFinds vertex choice f
+  Keeps (prop of den) f = PropFinds den f
+  Keeps (key flow minus vertex choice bs) f = KeyFinds flow vertex choice f
 
   abbrev pub KeepEach : List Op → List (Found Held) → Type 0
   KeepEach [] fs = Unit {0}
@@ -93,26 +108,10 @@ module _ (c : Code) where
 
   -- it doesn't matter where the registers stand
   keeps_placed : (plan : ℕ → ℕ) (x : Op) (f : Found Held) → Keeps x f → Keeps (placed_op plan x) f
-  keeps_placed plan (load to leg) (loads g) h = h
-  keeps_placed plan (load to leg) (adds x xs) h = h
-  keeps_placed plan (load to leg) (begins xs) h = h
-  keeps_placed plan (load to leg) (turns x) h = h
-  keeps_placed plan (load to leg) (closes xs) h = h
-  keeps_placed plan (fuse to minus vertex choice bs) (loads g) h = h
-  keeps_placed plan (fuse to minus vertex choice bs) (adds x xs) h = h
-  keeps_placed plan (fuse to minus vertex choice bs) (begins xs) h = h
-  keeps_placed plan (fuse to minus vertex choice bs) (turns x) h = h
-  keeps_placed plan (fuse to minus vertex choice bs) (closes xs) h = h
-  keeps_placed plan (prop of den) (loads g) h = h
-  keeps_placed plan (prop of den) (adds x xs) h = h
-  keeps_placed plan (prop of den) (begins xs) h = h
-  keeps_placed plan (prop of den) (turns x) h = h
-  keeps_placed plan (prop of den) (closes xs) h = h
-  keeps_placed plan (key flow minus vertex choice bs) (loads g) h = h
-  keeps_placed plan (key flow minus vertex choice bs) (adds x xs) h = h
-  keeps_placed plan (key flow minus vertex choice bs) (begins xs) h = h
-  keeps_placed plan (key flow minus vertex choice bs) (turns x) h = h
-  keeps_placed plan (key flow minus vertex choice bs) (closes xs) h = h
+  keeps_placed plan (load to leg) f h = h
+  keeps_placed plan (fuse to minus vertex choice bs) f h = h
+  keeps_placed plan (prop of den) f h = h
+  keeps_placed plan (key flow minus vertex choice bs) f h = h
 
   pub keep_placed : (plan : ℕ → ℕ) (xs : List Op) (fs : List (Found Held)) → KeepEach xs fs → KeepEach (map (placed_op plan) xs) fs
   keep_placed plan [] fs h = tt
