@@ -10,7 +10,7 @@ const MOST_TENTHS: u64 = 1_844_674_407_370_955_160;
 // The least number of sixteen digits without a zero in front.
 const LEAST_OF_SIXTEEN: u64 = 1_000_000_000_000_000;
 
-// The number that some digits write, and how many there are.
+/// The number that some digits write, and how many there are.
 #[derive(Clone, Copy)]
 pub(crate) struct Digits {
     pub(crate) value: u64,
@@ -116,7 +116,7 @@ fn eights_at_front(text: &[u8]) -> Digits
     }
 }
 
-// The digits at the front, before another byte, if their number is below 2^64. None says nothing of greater ones.
+/// The digits at the front, before another byte, if their number is below 2^64. None says nothing of greater ones.
 #[inline(always)]
 pub(crate) fn digits_at_front(text: &[u8]) -> Option<Digits>
     ensures within { IfSome result (λ d. d.len < length text.now) }
@@ -131,8 +131,8 @@ pub(crate) fn digits_at_front(text: &[u8]) -> Option<Digits>
     })
 }
 
-// The digits at the front, before `stop`, without a zero in front, if they are one to four, or so many behind sixteen. None says nothing
-// of others.
+/// The digits at the front, before `stop`, without a zero in front, if they are one to four, or so many behind sixteen. None says nothing
+/// of others.
 #[inline(always)]
 pub(crate) fn digits_before(text: &[u8], stop: u8) -> Option<Digits>
     ensures some { IfSome result (λ d. 0 < d.len) }
@@ -157,7 +157,7 @@ pub(crate) fn digits_before(text: &[u8], stop: u8) -> Option<Digits>
     })
 }
 
-// The least number that so many digits write without a zero in front.
+/// The least number that so many digits write without a zero in front.
 #[inline(always)]
 pub(crate) fn least_of_len(len: usize) -> Option<u64>
     ensures { IfSome result (λ least. (0 < len) × (1 < len → least ≡ 10 ^ (len - 1))) }
@@ -205,7 +205,7 @@ fn ten_to(len: usize) -> Option<u64>
     }
 }
 
-// The digits at the front, before another byte, if they are fewer than sixteen and so many bytes are there.
+/// The digits at the front, before another byte, if they are fewer than sixteen and so many bytes are there.
 #[inline(always)]
 pub(crate) fn fifteen_at_front(text: &[u8]) -> Option<Digits>
     ensures within { IfSome result (λ d. d.len < length text.now) }

@@ -55,8 +55,8 @@ fn digit_count(values: u64) -> u32 {
     others.trailing_zeros() / 8
 }
 
-// The digits at the front, up to seven of them, before another byte, if eight bytes are there. These are moved behind zeros, so that
-// all are looked at together.
+/// The digits at the front, up to seven of them, before another byte, if eight bytes are there. These are moved behind zeros, so that
+/// all are looked at together.
 #[inline(always)]
 pub(crate) fn seven_at_front(text: &[u8]) -> Option<Digits>
     ensures within { IfSome result (λ d. (d.len ≤ 7) × (8 ≤ length text.now)) }
@@ -77,7 +77,7 @@ pub(crate) fn seven_at_front(text: &[u8]) -> Option<Digits>
     })
 }
 
-// The number that eight digits at the front write, if there are as many.
+/// The number that eight digits at the front write, if there are as many.
 #[inline(always)]
 pub(crate) fn eight_at_front(text: &[u8]) -> Option<u64>
     ensures within { IfSome result (λ _. 8 ≤ length text.now) }

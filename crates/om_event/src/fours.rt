@@ -11,14 +11,14 @@ use om_lorentz::Four;
 use om_machine::Event;
 use om_ring::{Numeral, Ring};
 
-// The numerals or values of a leg: its momentum, and the components of its wave, of which a scalar's is the first.
+/// The numerals or values of a leg: its momentum, and the components of its wave, of which a scalar's is the first.
 #[derive(Clone, Copy)]
 pub(crate) struct Fours<E> {
     pub(crate) momentum: Four<E>,
     pub(crate) wave: Four<E>,
 }
 
-// What lines are read into, made once for an event: a leg that is handed on is copied at each call.
+/// What lines are read into, made once for an event: a leg that is handed on is copied at each call.
 #[derive(Clone, Copy)]
 pub(crate) struct Scratch<E> {
     pub(crate) numerals: Fours<Numeral>,
@@ -47,7 +47,7 @@ fn four_of<E: Copy>(x: E) -> Four<E>
     }
 }
 
-// Zeros, which no line has written.
+/// Zeros, which no line has written.
 pub(crate) fn make_scratch<R: Ring>(ring: &R) -> Scratch<R::E> {
     let numerals = four_of(ZERO);
     let values = four_of(ring.zero());
@@ -76,7 +76,7 @@ fn wave_of<E: Copy>(kind: WaveKind, p: &Four<E>) -> Wave<E>
     }
 }
 
-// Puts the values of a leg, counted from 1, into an event.
+/// Puts the values of a leg, counted from 1, into an event.
 #[inline(always)]
 pub(crate) fn set_leg<E: Copy>(event: &mut Event<E>, leg: u8, kind: WaveKind, values: &Fours<E>)
     requires some { 1 ≤ leg }
@@ -89,7 +89,7 @@ pub(crate) fn set_leg<E: Copy>(event: &mut Event<E>, leg: u8, kind: WaveKind, va
     event.set(leg, values.momentum, wave);
 }
 
-// Puts the components of a wave of this kind.
+/// Puts the components of a wave of this kind.
 #[tactic(auto, using(crate::proofs::Components::scalar_again, crate::proofs::Components::row_again, crate::proofs::Components::column_again, crate::proofs::Components::vector_again))]
 pub(crate) fn put_components<E: Copy>(kind: WaveKind, wave: Wave<E>, to: &mut Four<E>)
     requires { kind_of wave ≡ kind_named kind }

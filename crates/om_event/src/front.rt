@@ -10,14 +10,14 @@ use crate::written::leg_at_front;
 use crate::{Cause, MOST_LINE_BYTES, WaveKind};
 use om_ring::{Ring, Steps};
 
-// That the line of a leg was read, or the cause, and the length of the line without the line feed.
+/// That the line of a leg was read, or the cause, and the length of the line without the line feed.
 #[derive(Clone, Copy)]
 pub(crate) struct ReadLine {
     pub(crate) leg: Result<(), Cause>,
     pub(crate) len: usize,
 }
 
-// What the line of leg `k` at the front says, if it is read so.
+/// What the line of leg `k` at the front says, if it is read so.
 #[inline(always)]
 pub(crate) fn line_at_front<R: Ring<Mark = L>, L>(
     ring: &R,

@@ -13,7 +13,7 @@ use crate::{MOST_HELD_BYTES, MOST_LINE_BYTES};
 use om_io::{Failed, Source};
 use std::marker::Model;
 
-// Bytes of a stream in a buffer of fixed size. Contracts see them as their list.
+/// Bytes of a stream in a buffer of fixed size. Contracts see them as their list.
 #[derive(Drop)]
 pub(crate) struct Hold {
     buffer: [u8; MOST_HELD_BYTES],
@@ -33,7 +33,7 @@ impl Model for Hold {
 }
 
 impl Hold {
-    // No bytes.
+    /// No bytes.
     pub(crate) fn new() -> Hold
         ensures { result ≡ [] }
     {
@@ -44,14 +44,14 @@ impl Hold {
         }
     }
 
-    // The bytes.
+    /// The bytes.
     pub(crate) fn bytes(&self) -> &[u8]
         ensures { result.now ≡ self.now }
     {
         &self.buffer[self.start..self.end]
     }
 
-    // Lets go of the bytes at the front.
+    /// Lets go of the bytes at the front.
     #[tactic(auto, using(crate::proofs::Held::dropped))]
     pub(crate) fn drop_front(&mut self, count: usize)
         requires { count ≤ length self.old }
@@ -60,7 +60,7 @@ impl Hold {
         self.start += count;
     }
 
-    // Reads more bytes behind those that are held, no more than a line has, and answers how many came.
+    /// Reads more bytes behind those that are held, no more than a line has, and answers how many came.
     #[tactic(auto, using(crate::proofs::Held::behind, crate::proofs::Held::came_behind, crate::proofs::Held::none_came))]
     pub(crate) fn fill<S: Source>(&mut self, input: &mut S) -> Result<usize, Failed>
         requires { length self.old ≤ MOST_LINE_BYTES }
@@ -81,7 +81,7 @@ impl Hold {
         Ok(count)
     }
 
-    // Reads until a line stands at the front, or can't come. Each byte is looked at once.
+    /// Reads until a line stands at the front, or can't come. Each byte is looked at once.
     #[tactic(auto, using(crate::proofs::Held::none_came, crate::proofs::Held::starts_more, crate::proofs::Held::came_more, crate::proofs::Held::longer_line))]
     pub(crate) fn wait_for_line<S: Source>(&mut self, input: &mut S) -> Waited<usize>
         ensures more { StartsWith self.new self.old }

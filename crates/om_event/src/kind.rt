@@ -20,7 +20,7 @@ pub enum WaveKind {
     Vector,
 }
 
-// The kind of the wave that enters with a field.
+/// The kind of the wave that enters with a field.
 pub(crate) fn kind_of_field(code: &Code, field: u16) -> WaveKind
     ensures { kind_named result ≡ kind_of_field code.now.model.particles field }
 {

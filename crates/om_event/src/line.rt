@@ -11,7 +11,7 @@ use om_kernel::Wave;
 use om_lorentz::Four;
 use om_ring::{Line, Ring, Steps, read_numeral, value_of};
 
-// What enters through a leg.
+/// What enters through a leg.
 #[derive(Clone, Copy)]
 pub(crate) struct Leg<E> {
     pub(crate) momentum: Four<E>,
@@ -138,7 +138,7 @@ fn wave_size(kind: WaveKind) -> usize
     }
 }
 
-// What the line of leg `k` says, without its line feed; or the first cause in order.
+/// What the line of leg `k` says, without its line feed; or the first cause in order.
 #[tactic(auto, using(crate::proofs::LineReads::line_rules))]
 pub(crate) fn read_leg<R: Ring<Mark = L>, L>(
     ring: &R,

@@ -10,7 +10,7 @@ fn piece_len(text: &[u8]) -> usize
     text.iter().take_while(|b| **b != b' ').count()
 }
 
-// The first piece, and what follows the space behind it.
+/// The first piece, and what follows the space behind it.
 pub(crate) fn first_piece(text: &[u8]) -> (&[u8], &[u8])
     ensures piece { result.0.now ≡ front_piece text.now }
     ensures rest { result.1.now ≡ behind_piece text.now }
@@ -23,7 +23,7 @@ pub(crate) fn first_piece(text: &[u8]) -> (&[u8], &[u8])
     }
 }
 
-// How many spaces there are.
+/// How many spaces there are.
 pub(crate) fn count_spaces(text: &[u8]) -> usize
     ensures { result ≡ length (filter is_space text.now) }
 {

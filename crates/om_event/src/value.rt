@@ -78,7 +78,7 @@ fn put_wave<R: Ring<Mark = L>, L>(
     Ok(())
 }
 
-// Puts the values of a leg, or tells that a numeral of it has none.
+/// Puts the values of a leg, or tells that a numeral of it has none.
 #[inline(always)]
 #[tactic(auto, unfolding(crate::specs::Written::leg_value))]
 pub(crate) fn put_leg<R: Ring<Mark = L>, L>(

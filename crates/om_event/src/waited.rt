@@ -14,15 +14,15 @@ use crate::{Cause, WaveKind};
 use om_io::Source;
 use om_ring::{Ring, Steps};
 
-// What stands at the front of the bytes held, by what is known of a whole line.
+/// What stands at the front of the bytes held, by what is known of a whole line.
 pub(crate) enum Waited<T> {
-    // A whole line.
+    /// A whole line.
     Line(T),
-    // More bytes than a line has, and no line feed.
+    /// More bytes than a line has, and no line feed.
     TooLong,
-    // Less than a line, and the input has ended.
+    /// Less than a line, and the input has ended.
     Ended,
-    // Less than a line, and the input has failed.
+    /// Less than a line, and the input has failed.
     Failed,
 }
 
@@ -44,7 +44,7 @@ fn read_values<R: Ring<Mark = L>, L>(
     Ok(())
 }
 
-// Reads until the line of leg `k` stands at the front, or can't come, and tells what it says.
+/// Reads until the line of leg `k` stands at the front, or can't come, and tells what it says.
 #[tactic(auto, using(crate::proofs::Held::none_came))]
 pub(crate) fn next_line<R: Ring<Mark = L>, S: Source, L>(
     ring: &R,

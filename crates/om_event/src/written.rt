@@ -215,8 +215,8 @@ fn behind_leg_number(text: &[u8], k: u8) -> Option<&[u8]>
     Some(rest)
 }
 
-// Reads the line of leg `k` at the front, if it is whole and each of its numerals has its canonical text, and answers its length
-// without the line feed.
+/// Reads the line of leg `k` at the front, if it is whole and each of its numerals has its canonical text, and answers its length
+/// without the line feed.
 pub(crate) fn leg_at_front(
     kind: WaveKind,
     k: u8,
