@@ -37,6 +37,7 @@ pub mod FermionLegs
 pub mod MeetingFields
 pub mod Meetable
 pub mod VertexChoices
+pub mod FlowWords
 pub mod FoundMembers
 pub mod SplitMembers
 pub mod PartSizes

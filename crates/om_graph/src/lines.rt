@@ -1,6 +1,6 @@
 //! The lines of the sides that close to a flow, as words of bytes: no two lines start at one leg, so the ends of all lines are the sum of
 //! those of each side.
-ghost use Rattle.std.specs.Prelude.{◌≡◌, ◌+◌, ◌^◌, ◌<◌, ◌≤◌, cond, eqb, map, slice_index, Some};
+ghost use Rattle.std.specs.Prelude.{◌≡◌, ◌+◌, ◌^◌, ◌<◌, ◌≤◌, cond, eqb, map, slice_index, IsTrue, Some};
 ghost use Rattle.std.specs.Int.{to_le_bytes, w64};
 ghost use Rattle.om_colour.specs.Partials.{Fits, closed as closed_of, no_hole};
 ghost use Rattle.om_colour.specs.declared.TheConstants.{UPWARDS};
@@ -9,7 +9,7 @@ ghost use Rattle.om_graph.specs.Words.{keys_behind, kept as kept_of, lines_behin
 
 use crate::Key;
 use crate::parts::{Part, Parts};
-use om_colour::{Choice, Flow, Partial, UPWARDS};
+use om_colour::{Choice, ENDS, Flow, Partial, UPWARDS};
 
 /// The ends of the lines from eight legs, a byte each: those that end within their side, and a 1 for each that leaves it upwards.
 #[derive(Clone, Copy, Debug)]
@@ -181,4 +181,24 @@ fn flow_of(low: u64, high: u64) -> Flow
             last[0], last[1], last[2], last[3],
         ],
     }
+}
+
+/// Ends as words: those of lines from legs 1 to 8, and from legs 9 to 12.
+pub(crate) fn words_of(ends: [u8; ENDS]) -> (u64, u64)
+    ensures { ends ≡ twelve (to_le_bytes w64 result.0) (to_le_bytes w64 result.1) }
+{
+    let low = u64::from_le_bytes([
+        ends[0], ends[1], ends[2], ends[3], ends[4], ends[5], ends[6], ends[7],
+    ]);
+    let high = u64::from_le_bytes([ends[8], ends[9], ends[10], ends[11], 0, 0, 0, 0]);
+    (low, high)
+}
+
+/// Whether two flows are the same, by their words.
+pub(crate) fn are_same(a: Flow, b: Flow) -> bool
+    ensures { IsTrue result → a ≡ b }
+{
+    let (a_low, a_high) = words_of(a.ends);
+    let (b_low, b_high) = words_of(b.ends);
+    a_low == b_low && a_high == b_high
 }

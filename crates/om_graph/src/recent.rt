@@ -1,6 +1,9 @@
 //! Where flows stood when they were last met.
+ghost use Rattle.std.specs.Prelude.{◌≡◌, IfSome, Some, slice_get};
 
+use crate::lines::{are_same, words_of};
 use om_colour::Flow;
+use om_cons::Table;
 use om_ring::NoMemory;
 use std::alloc::Global;
 
@@ -39,12 +42,21 @@ impl Recent {
 }
 
 /// The slot of a flow.
-pub(crate) fn slot_of(flow: &Flow) -> usize {
-    let [a, b, c, d, e, f, g, h, i, j, k, l] = flow.ends;
-    let low = u64::from_le_bytes([a, b, c, d, e, f, g, h]);
-    let high = u32::from_le_bytes([i, j, k, l]);
+pub(crate) fn slot_of(flow: Flow) -> usize {
+    let (low, high) = words_of(flow.ends);
     let mixed = low
         .wrapping_mul(0x9E37_79B9_7F4A_7C15)
-        .wrapping_add(u64::from(high).wrapping_mul(0xC2B2_AE3D_27D4_EB4F));
+        .wrapping_add(high.wrapping_mul(0xC2B2_AE3D_27D4_EB4F));
     (mixed >> 48) as usize
+}
+
+/// This place, where the flow stands there.
+pub(crate) fn place_if_at(flows: &Table<Flow>, near: usize, flow: Flow) -> Option<usize>
+    ensures { IfSome result (λ place. slice_get flows.now place ≡ Some flow) }
+{
+    if near < flows.len() && are_same(*flows.at(near), flow) {
+        Some(near)
+    } else {
+        None
+    }
 }
