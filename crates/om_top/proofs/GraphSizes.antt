@@ -1,5 +1,5 @@
 -- How many nodes, terms and flows a canonical graph has.
-use Rattle.std.proofs.Common.{◌≡◌, ℕ, zero, suc, ◌+◌, ◌<◌, ◌≤◌, ◌⊎◌, inl, inr, ⊎_elim, List, [], ◌∷◌, ◌++◌, length, map, Bool, true, false, not, Some, refl, ap, ap₂, sym, subst, ◌∙◌, arith}
+use Rattle.std.proofs.Common.{◌≡◌, ℕ, zero, suc, ◌+◌, ◌<◌, ◌≤◌, ◌⊎◌, inl, inr, ⊎_elim, List, [], ◌∷◌, ◌++◌, length, map, Bool, true, false, not, Some, refl, ap, sym, subst, ◌∙◌, arith}
 use Rattle.std.specs.Prelude.{slice_get}
 use Rattle.std.specs.List.{filter}
 use Rattle.std.proofs.lemmas.Bool.{cases_lt}
@@ -28,7 +28,6 @@ use Rattle.om_graph.specs.Possible.{IsPossible, flow_lt, key_lt, term_count, uns
 use Rattle.om_graph.specs.Reactions.{reaction_of}
 use Rattle.om_graph.specs.Vertices.{Reaction, fusion}
 use Rattle.om_graph.proofs.HaveReactions.{well_formed_have_reactions}
-use Rattle.om_graph.proofs.Keystones.{numbered_order}
 use Rattle.om_graph.proofs.Orders.{flow_order, key_order}
 use Rattle.om_graph.proofs.SetNodes.{number_of}
 use Rattle.om_keystone.specs.Built.{is_inner}
@@ -36,7 +35,8 @@ use Rattle.om_keystone.specs.CanonicalGraph.{IsCanonicalOf}
 use Rattle.om_keystone.specs.InDiagrams.{IsKeyMet, KeyTermOf}
 use Rattle.om_keystone.proofs.BuiltGraph.{built_up}
 use Rattle.om_keystone.proofs.Nodes.{leg_or_inner}
-use Rattle.om_keystone.proofs.Numbers.{At, at_all, at_more, at_none, at_of, number_once, of_at}
+use Rattle.om_keystone.proofs.ByNumber.{numbered_differ, same_numbered}
+use Rattle.om_keystone.proofs.Numbers.{At, at_all, at_of, at_once, number_once, of_at}
 use Rattle.om_keystone.proofs.PartOfPossible.{canonical_is_part_of_possible}
 use Rattle.om_keystone.proofs.Reached.{prune_is_exact}
 use Rattle.om_keystone.proofs.Reaching.Reached.{from_key}
@@ -96,10 +96,6 @@ numbers_of {A} {B} lt order xs rise ys f h =
     few_images R xs ys (λ x z y e g. same_Some x z (sym e ∙ g)) (rising_different lt order.irreflexive xs rise)
     (λ x i. let y = h x i in record { image = y.0; among = y.1; is = y.2 })
 
-at_once : {A : Type 0} (lt : A → A → Bool) → IsOrder lt → (xs : List A) → Rising lt xs → {is js : List ℕ} {ks : List A} → At xs is ks → At xs js ks → is ≡ js
-at_once lt order xs rise at_none at_none = refl
-at_once lt order xs rise (at_more {n = m} {y = y} e a) (at_more {n = n} f b) = ap₂ ◌∷◌ (number_once lt order xs rise m n y e f) (at_once lt order xs rise a b)
-
 in_upto_from : (j n : ℕ) → 1 ≤ j → j ≤ n → In j (upto n)
 unfolding upto
 in_upto_from j zero low high = absurd (omega (arith, low, high))
@@ -145,12 +141,6 @@ module _ (m : Model) (p : Process) (formed : IsWellFormed m) (is : IsProcessOf m
     its_choice : x.choice ≡ y.choice
     its_branches : at_numbers g.nodes x.branches ≡ at_numbers nodes y.branches
 
-  same_numbered : (x y : Numbered) → x.made ≡ y.made → x.vertex ≡ y.vertex → x.choice ≡ y.choice → x.branches ≡ y.branches → x ≡ y
-  same_numbered x y a b c d =
-      ap (λ (n : ℕ). let z : Numbered = record { made = n; vertex = x.vertex; choice = x.choice; branches = x.branches } in z) a
-      ∙ ap₂ (λ (v w : ℕ). let z : Numbered = record { made = y.made; vertex = v; choice = w; branches = x.branches } in z) b c
-      ∙ ap (λ (is : List ℕ). let z : Numbered = record { made = y.made; vertex = y.vertex; choice = y.choice; branches = is } in z) d
-
   same_nodes : (is js : List ℕ) (ks us : List Key) → at_numbers g.nodes is ≡ Some ks → at_numbers g.nodes js ≡ Some us → at_numbers g.nodes is ≡ at_numbers g.nodes js → is ≡ js
   same_nodes is js ks us e f q =
       at_once key_lt key_order g.nodes canonical.graph.nodes_rise (at_of g.nodes is ks e) (subst (At g.nodes js) (same_Some us ks (sym f ∙ sym q ∙ e)) (at_of g.nodes js us f))
@@ -172,7 +162,7 @@ module _ (m : Model) (p : Process) (formed : IsWellFormed m) (is : IsProcessOf m
     fewer us rises found =
         let R : Numbered → T → Type 0 = λ x y. In x (map numbered ts) × IsSame ms others nodes x (numbered y) in
         let few = few_images R (map numbered ts) us (λ x z y a b. once x z (numbered y) a.0 b.0 a.1 b.1)
-        (rising_different numbered_lt numbered_order.irreflexive (map numbered ts) rises)
+        (numbered_differ (map numbered ts) rises)
         (λ x i.
         let t = in_mapped numbered x ts i in
         let s = found t.0 t.1 in
