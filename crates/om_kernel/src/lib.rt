@@ -3,7 +3,8 @@
 //! A vertex sees at each slot a wave and the momentum that enters. `fuse` gives what a vertex makes of the
 //! waves at all slots but one, and `close` what it makes of all of them. Both equal the sum over the indices
 //! of the slots of the vertex entry, times i, as `specs/IndexSums.antt` states it; neither goes over indices.
-//! `propagate` gives what an edge makes of a wave, the index sum of `specs/EdgeSums.antt`.
+//! `propagate` gives what an edge makes of a wave, the index sum of `specs/EdgeSums.antt`. `dot`, `plain_dot`,
+//! `lower_difference` and `plus_four` are the products, differences and sums of vectors that these are made of.
 //!
 //! No call takes memory.
 #![tactic(auto)]
