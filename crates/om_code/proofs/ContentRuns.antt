@@ -23,7 +23,7 @@ use Rattle.om_code.specs.Slots.{nothing, held_at, is_gathering, nodes_of, branch
 use Rattle.om_code.specs.Waves.{Incoming, plus_wave, signed_wave, wave_of, wave_of_leg, zero_wave}
 use Rattle.om_code.specs.Vertices.{branch, branches_of, entering_or_none, hole_by, hole_in, into_slots, reading_of_vertex, slots_with, structure_of, upwards}
 use Rattle.om_code.specs.Meaning as machine
-use Rattle.om_code.specs.Meaning.{Values, sums_of, zeros}
+use Rattle.om_code.specs.Meaning.{Values, zeros}
 use Rattle.om_code.specs.Registers.{State, written, joined, act, run, start}
 use Rattle.om_code.specs.Contents.{Content, EnteringWave, entering, open_slot, wave_or_none, waves_in_slots, slot_of, slots_of, upwards_of, fused_of, made_wave, fused_content, wave_over, moved_content, made_number, summed_content, step_at, plus_content, empty_content, NamesSlots, MeaningIsRun}
 use Rattle.om_code.proofs.Carried.{sorted_into-carry}

@@ -1,5 +1,5 @@
 //! Which codes have a text.
-ghost use Rattle.std.specs.Prelude.{◌≤◌, ◌↔◌, ◌≡◌, IsTrue, length};
+ghost use Rattle.std.specs.Prelude.{◌≤◌, ◌↔◌, IsTrue, length};
 ghost use Rattle.std.specs.List.{AllByRecursion};
 ghost use Rattle.om_code.specs.Plain.{HasPlainLines, HasPlainModel, IsNamed, IsPlain, IsPlainDen, IsPlainFlow, IsPlainVertex};
 ghost use Rattle.om_model.specs.Rules.{HasLength, HasLengths};

@@ -1,5 +1,5 @@
 //! Which lists of instructions have a text.
-ghost use Rattle.std.specs.Prelude.{◌≡◌, ◌↔◌, ◌⊎◌, IsTrue};
+ghost use Rattle.std.specs.Prelude.{◌≡◌, ◌↔◌, IsTrue};
 ghost use Rattle.std.specs.List.{AllByRecursion};
 ghost use Rattle.om_code.specs.Plain.{AreSlots, HasPlainInstrs, InParts, IsLoadSlot, IsPlainInstr, IsPlace, part_of as part_of_instr, registers_named as registers_named_by, slots_for as slots_for_instr};
 

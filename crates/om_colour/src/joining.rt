@@ -1,5 +1,5 @@
 //! Partial flows, joined at a vertex.
-ghost use Rattle.std.specs.Prelude.{◌≡◌, ℕ, ◌<◌, ◌≤◌, None, [], ◌∷◌, slice_index};
+ghost use Rattle.std.specs.Prelude.{◌≡◌, ℕ, ◌<◌, ◌≤◌, None, slice_index};
 ghost use Rattle.om_colour.specs.Lines.{IsSlot};
 ghost use Rattle.om_colour.specs.Choices.{goes_to};
 ghost use Rattle.om_colour.specs.Partials.{Closes, Fits, FitsOnwards, Joins, all_beyond, closed, each_leg, end_at, end_through, ends_by, first_of, into_at, joined, merged_end, no_hole, part_at};

@@ -1,6 +1,6 @@
 //! The texts of flows and partial flows.
-ghost use Rattle.std.specs.Prelude.{◌≡◌, ℕ, ◌+◌, ◌-◌, ◌*◌, ◌/◌, ◌≤◌, ◌<◌, ◌≢◌, List, ◌++◌, length, cond, eqb, decimal, []};
-ghost use Rattle.om_colour.specs.Texts.{end_text, flow_bytes, line_item, line_items, one_more, partial_bytes, with_commas};
+ghost use Rattle.std.specs.Prelude.{◌≡◌, ◌+◌, ◌-◌, ◌*◌, ◌/◌, ◌≤◌, ◌<◌, ◌++◌, length, decimal, []};
+ghost use Rattle.om_colour.specs.Texts.{flow_bytes, line_item, line_items, one_more, partial_bytes, with_commas};
 ghost use Rattle.om_ring.specs.declared.line.TheConstants.{LINE_BYTES};
 ghost use Rattle.om_colour.specs.declared.texts.TheConstants.{FLOW_BYTES, ITEM_BYTES, LEG_BYTES, LINES_BYTES};
 ghost use Rattle.om_legs.specs.declared.leg_set.TheConstants.{MOST_LEGS};

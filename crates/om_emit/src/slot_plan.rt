@@ -1,7 +1,7 @@
 //! The first-fit plan.
-ghost use Rattle.std.specs.Prelude.{◌≡◌, ◌+◌, ◌++◌, ◌^◌, ◌<◌, ◌≤◌, ℕ, true, length, IfOk, vec_len, All, slice_index_or};
+ghost use Rattle.std.specs.Prelude.{◌≡◌, ◌+◌, ◌++◌, ◌^◌, ◌<◌, ◌≤◌, ℕ, true, length, IfOk, vec_len, All};
 ghost use Rattle.om_code.specs.Spans.{is_named, width};
-ghost use Rattle.om_code.specs.SlotPlans.{first_fit, slot_or_0};
+ghost use Rattle.om_code.specs.SlotPlans.{first_fit};
 ghost use Rattle.om_code.specs.Ops.{registers_of, lines_of_code};
 ghost use Rattle.om_code.specs.Slots.{nodes_of};
 ghost use Rattle.om_emit.specs.GraphCode.{key_lines};

@@ -1,5 +1,5 @@
 //! Bytes that were read and not used yet.
-ghost use Rattle.std.specs.Prelude.{◌≡◌, ◌≤◌, ◌<◌, ◌-◌, ℕ, List, [], ◌+◌, length, take, drop, IfOk, IfSome, OnErr};
+ghost use Rattle.std.specs.Prelude.{◌≡◌, ◌≤◌, ◌<◌, ◌-◌, ℕ, List, [], ◌+◌, length, take, drop, IfOk, OnErr};
 ghost use Rattle.std.specs.Io.{StartsWith, appended_bytes};
 ghost use Rattle.om_io.specs.Bytes.{before_told};
 ghost use Rattle.om_io.specs.Causes.{HasCause, Rose};

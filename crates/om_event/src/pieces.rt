@@ -1,7 +1,7 @@
 //! The pieces of a line between single spaces.
 ghost use Rattle.std.specs.Prelude.{◌≡◌, ◌+◌, length};
 ghost use Rattle.std.specs.List.{prefix_len, filter};
-ghost use Rattle.om_event.specs.Pieces.{behind_piece, front_piece, in_piece, is_space, pieces};
+ghost use Rattle.om_event.specs.Pieces.{behind_piece, front_piece, in_piece, is_space};
 
 // How many bytes stand before the first space, or the end.
 fn piece_len(text: &[u8]) -> usize

@@ -1,6 +1,6 @@
 //! The numerals of a line, from its front.
 ghost use Rattle.std.specs.Prelude.{ℕ, List, ◌≡◌, ◌++◌, ◌∷◌, ◌≤◌, ◌<◌, ◌^◌, ◌+◌, length, drop, IfSome, decimal};
-ghost use Rattle.om_ring.specs.Numerals.{NumeralFits, mark_text, numeral_text, shown_den, sign_text};
+ghost use Rattle.om_ring.specs.Numerals.{NumeralFits, mark_text, shown_den, sign_text};
 ghost use Rattle.om_event.specs.Written.{FourFits, IsWritten, LegFits, WaveFits, four_before, leg_of, number_before, wave_before, wave_of};
 
 use crate::WaveKind;

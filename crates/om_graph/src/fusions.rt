@@ -1,6 +1,6 @@
 //! What nodes fuse to, found tuple by tuple.
 ghost use Rattle.std.specs.List.Sorted.{IsPermutation, IsSortedBy};
-ghost use Rattle.std.specs.Prelude.{◌≡◌, ℕ, All, IfErr, ◌+◌, ◌≤◌, ◌<◌, [], ◌∷◌, map, flat_map, length, Some, OnOk, false, List};
+ghost use Rattle.std.specs.Prelude.{◌≡◌, ℕ, All, IfErr, ◌+◌, ◌≤◌, ◌<◌, [], ◌∷◌, map, length, Some, OnOk, false, List};
 ghost use Rattle.om_graph.specs.Caches.{AllBelow};
 ghost use Rattle.om_graph.specs.Fillings.{AreFillings, filled_at, sides_of};
 ghost use Rattle.om_graph.specs.Graph.{at_numbers, found_lt};

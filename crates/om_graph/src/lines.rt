@@ -1,6 +1,6 @@
 //! The lines of the sides that close to a flow, as words of bytes: no two lines start at one leg, so the ends of all lines are the sum of
 //! those of each side.
-ghost use Rattle.std.specs.Prelude.{◌≡◌, ◌+◌, ◌^◌, ◌<◌, ◌≤◌, cond, eqb, map, slice_index, IsTrue, Some};
+ghost use Rattle.std.specs.Prelude.{◌≡◌, ◌+◌, ◌^◌, ◌<◌, map, slice_index, IsTrue, Some};
 ghost use Rattle.std.specs.Int.{to_le_bytes, w64};
 ghost use Rattle.om_colour.specs.Partials.{Fits, closed as closed_of, no_hole};
 ghost use Rattle.om_colour.specs.declared.TheConstants.{UPWARDS};

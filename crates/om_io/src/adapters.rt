@@ -1,6 +1,6 @@
 //! Readers, writers and files of the machine. Nothing is known of what they hold.
 ghost use Rattle.std.specs.Prelude.{◌≡◌, ◌≤◌, ℕ, List, [], length, None, Some, IfOk, bytes_eq, if◌then◌else◌};
-ghost use Rattle.om_io.specs.SystemAnswers.{Answers, IsCounted};
+ghost use Rattle.om_io.specs.SystemAnswers.{Answers};
 
 use crate::calls::counted_fault;
 use crate::{Failed, Folder, Sink, Source};

@@ -1,5 +1,5 @@
 //! The rows of one kind, one after the other.
-ghost use Rattle.std.specs.Prelude.{◌≡◌, ℕ, List, flat_map};
+ghost use Rattle.std.specs.Prelude.{ℕ, List, flat_map};
 ghost use Rattle.om_io.specs.Writing.{Writes, outlet};
 ghost use Rattle.std.specs.List.{AllByRecursion};
 

@@ -1,6 +1,6 @@
 //! What stands at the places of a vertex, slot by slot. Where there is nothing, which the conditions of `fuse` and
 //! `close` rule out, it is 0.
-ghost use Rattle.std.specs.Prelude.{◌≡◌, ◌≤◌, None};
+ghost use Rattle.std.specs.Prelude.{◌≡◌, None};
 ghost use Rattle.om_lorentz.specs.Entries.{momentum};
 ghost use Rattle.om_kernel.specs.Components.{four_in, scalar_in};
 ghost use Rattle.om_kernel.specs.IndexSums.{momenta_of, wave_at};

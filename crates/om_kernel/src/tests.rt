@@ -1,5 +1,5 @@
 //! Each structure, hole and slot at numbers, beside slow index sums over the entries of `om_lorentz`.
-ghost use Rattle.std.specs.Prelude.{◌≡◌, ◌≤◌};
+ghost use Rattle.std.specs.Prelude.{◌≤◌};
 ghost use Rattle.om_lorentz.specs.Structures.{IsReading, slot_count};
 
 use crate::test_slots::{factors, slots_of};

@@ -1,5 +1,5 @@
 //! The canonical graph out of the possible one.
-ghost use Rattle.std.specs.Prelude.{◌≡◌, ◌≤◌, IfOk, length, map};
+ghost use Rattle.std.specs.Prelude.{◌≡◌, IfOk, length, map};
 ghost use Rattle.om_graph.specs.Graph.{numbered_lt};
 ghost use Rattle.om_graph.specs.Possible.{IsPossible, nodes_at, unsigned, unsigned_key};
 ghost use Rattle.om_graph.specs.Reactions.{reaction_of};

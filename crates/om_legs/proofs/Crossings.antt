@@ -1,15 +1,13 @@
 -- The parity of crossings of two sets, and of lists end to end.
-use Rattle.std.proofs.Common.{◌≡◌, ℕ, zero, suc, ◌+◌, ◌*◌, ◌%◌, ◌<◌, ◌≤◌, List, [], ◌∷◌, ◌++◌, length, suc-mul, Bool, true, false, cond, eqb, ltb, inl, inr, ⊎_elim, refl, ap, ap₂, sym, ◌∙◌, arith, bit_and, min, count_ones}
+use Rattle.std.proofs.Common.{◌≡◌, ℕ, zero, suc, ◌+◌, ◌*◌, ◌%◌, ◌<◌, ◌≤◌, List, [], ◌∷◌, Bool, true, false, cond, eqb, ltb, inl, inr, ⊎_elim, refl, ap, ap₂, sym, ◌∙◌, arith, bit_and, min, count_ones}
 use Rattle.std.specs.Int.{bit_at}
 use Rattle.std.specs.List.{filter, sum_by, count_by}
 use Rattle.std.proofs.lemmas.Nat.{and_le_l}
 use Rattle.std.proofs.lemmas.Nat.Bits.{bit_at_and, bit_at-lt}
 use Rattle.std.proofs.lemmas.Bool.{cases_eq, lt-ltb, le-ltb}
-use Rattle.std.proofs.lemmas.Bool.Decides.{nat_tests}
-use Rattle.std.proofs.lemmas.List.Sums.{sum_by-cons, sum_by-append}
+use Rattle.std.proofs.lemmas.List.Sums.{sum_by-cons}
 use Rattle.om_legs.specs.Legs.{IsLegSet, holds, legs_of, every_leg}
 use Rattle.om_legs.specs.Crossings.{crossings, is_odd, bit_sum}
-use Rattle.om_ring.specs.Members.{In}
 use Rattle.om_legs.proofs.Bits.{bit, bit-holds}
 use Rattle.om_legs.proofs.LegLists.{leg_sum, sum_by-every_leg, count_ones-bit_sum}
 
@@ -79,45 +77,3 @@ same_parity a b p (suc n) l h = by _ _ _ _ (bit_at a n) (bit_sum b n) (bit_at-lt
 pub is_odd-crossings : (a b p : ℕ) → IsLegSet a → ((k : ℕ) → k < 16 → bit_at p k ≡ bit_sum b k % 2) → eqb (count_ones (bit_and a p) % 2) 1 ≡ is_odd (crossings (legs_of a) (legs_of b))
 is_odd-crossings a b p w h = ap (λ n. eqb (n % 2) 1) (count_ones-bit_sum 12 (bit_and a p) (let l = and_le_l a p in omega arith))
     ∙ ap (λ n. eqb n 1) (same_parity a b p 12 (omega arith) h ∙ ap (λ n. n % 2) (sym (crossings-leg_sum a b)))
-
--- ---- crossings of lists end to end
-
-pub crossings-append_right : (xs ys zs : List ℕ) → crossings xs (ys ++ zs) ≡ crossings xs ys + crossings xs zs
-crossings-append_right [] ys zs = refl
-crossings-append_right (x ∷ xs) ys zs =
-    let cons : (us : List ℕ) → crossings (x ∷ xs) us ≡ count_by (λ y. ltb y x) us + crossings xs us = λ us. sum_by-cons (λ v. count_by (λ y. ltb y v) us) x xs in
-    let here = sum_by-append (λ y. bit (ltb y x)) ys zs in
-    let ih = crossings-append_right xs ys zs in
-    let c = cons (ys ++ zs) in
-    let d = cons ys in
-    let e = cons zs in
-    omega arith
-
--- ---- the pairs in the other order
-
-sum_of_others : (x : ℕ) (ys : List ℕ) → ((y : ℕ) → In y ys → x ≡ y → ⊥) → count_by (λ y. ltb y x) ys + crossings ys (x ∷ []) ≡ length ys
-sum_of_others x [] h = refl
-sum_of_others x (y ∷ ys) h =
-    let ih = sum_of_others x ys (λ z i. h z (inr i)) in
-    let c = sum_by-cons (λ z. bit (ltb z x)) y ys in
-    let d = sum_by-cons (λ z. count_by (λ u. ltb u z) (x ∷ [])) y ys in
-    let one = by x y (h y (inl refl)) in
-    omega arith
-  where
-    by : (x y : ℕ) → (x ≡ y → ⊥) → bit (ltb y x) + (0 + bit (ltb x y)) ≡ 1
-    by x y h = grind (arith, nat_tests)
-
--- of two lists without a common leg each pair is in falling order one way or the other
-pub crossings_both_ways : (xs ys : List ℕ) → ((x y : ℕ) → In x xs → In y ys → x ≡ y → ⊥) → crossings xs ys + crossings ys xs ≡ length xs * length ys
-crossings_both_ways [] ys h = none ys
-  where
-    none : (ys : List ℕ) → 0 + crossings ys [] ≡ 0 * length ys
-    none [] = refl
-    none (y ∷ ys) = let ih = none ys in let c = sum_by-cons (λ z. count_by (λ u. ltb u z) []) y ys in omega arith
-crossings_both_ways (x ∷ xs) ys h =
-    let ih = crossings_both_ways xs ys (λ u v i j. h u v (inr i) j) in
-    let c = sum_by-cons (λ v. count_by (λ y. ltb y v) ys) x xs in
-    let d = crossings-append_right ys (x ∷ []) xs in
-    let one = sum_of_others x ys (λ y j. h x y (inl refl) j) in
-    let p = suc-mul (length xs) (length ys) in
-    omega arith

@@ -4,12 +4,9 @@ use Rattle.std.specs.Int.{bit_at, trailing_zeros, w16}
 use Rattle.std.specs.Int.Count.{ones_step}
 use Rattle.std.proofs.lemmas.Nat.{ones_le_self}
 use Rattle.std.specs.List.{filter, range_with_len, sum_by, Contains}
-use Rattle.std.specs.List.Sorted.{IsStrictlyIncreasing}
 use Rattle.std.proofs.lemmas.Nat.Bits.{bit_at-suc, bit_at_lowest, bit_at-trailing_zeros, bit_at-zero, bit_at_above}
 use Rattle.std.proofs.lemmas.Bool.{cases_eq, cases_lt, true≢false, eq-eqb}
 use Rattle.std.proofs.lemmas.List.Sums.{length-filter}
-use Rattle.std.proofs.lemmas.List.FromFn.{length-range_with_len, get_or-range_with_len}
-use Rattle.std.proofs.lemmas.List.Kept.{IsStrictlyIncreasing-filter}
 use Rattle.std.proofs.Math.Nat.{pow-suc}
 use Rattle.om_legs.specs.Legs.{IsLegSet, holds, legs_of, every_leg, size, least}
 use Rattle.om_legs.specs.Crossings.{bit_sum}

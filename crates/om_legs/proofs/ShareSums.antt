@@ -1,14 +1,13 @@
 -- Sums over the legs of a set that is shared out: sizes and crossings add up.
-use Rattle.std.proofs.Common.{◌≡◌, ℕ, zero, suc, ◌+◌, ◌*◌, ◌<◌, ◌≤◌, List, [], ◌∷◌, length, ltb, refl, ap, ap₂, sym, ◌∙◌, arith}
-use Rattle.std.specs.List.{sum_by, count_by}
-use Rattle.std.proofs.lemmas.List.Sums.{sum_by-cons, count_by-le-length, length-filter}
+use Rattle.std.proofs.Common.{◌≡◌, ℕ, zero, suc, ◌+◌, ◌*◌, ◌<◌, ◌≤◌, List, [], ◌∷◌, length, refl, ap, ap₂, sym, ◌∙◌, arith}
+use Rattle.std.specs.List.{sum_by}
+use Rattle.std.proofs.lemmas.List.Sums.{sum_by-cons}
 use Rattle.om_legs.specs.Legs.{IsLegSet, IsSubset, holds, legs_of, every_leg, size, least, minus}
-use Rattle.om_legs.specs.Crossings.{crossings}
 use Rattle.om_legs.proofs.Bits.{bit}
 use Rattle.om_legs.proofs.LegLists.{leg_sum, sum_by-every_leg, legs_of-empty, Contains-legs_of}
 use Rattle.om_legs.proofs.Crossings.{sum_by-filter}
 use Rattle.om_legs.proofs.Least.{holds-least}
-use Rattle.om_legs.proofs.Operations.{IsLegSet-subset, IsLegSet-minus}
+use Rattle.om_legs.proofs.Operations.{IsLegSet-subset}
 use Rattle.om_legs.proofs.Shares.{AreShares, AreShares-minus, sum_of_shares}
 
 pub sum_by-legs_of : (f : ℕ → ℕ) (set : ℕ) → sum_by f (legs_of set) ≡ leg_sum (λ leg. bit (holds set leg) * f leg) 12
@@ -29,17 +28,6 @@ shared_sum f set a b (suc n) h =
 -- a sum over the legs of a set is the sum over its two shares
 pub sum_by-shares : (f : ℕ → ℕ) (set a b : ℕ) → AreShares set a b → sum_by f (legs_of set) ≡ sum_by f (legs_of a) + sum_by f (legs_of b)
 sum_by-shares f set a b h = sum_by-legs_of f set ∙ shared_sum f set a b 12 h ∙ sym (ap₂ (λ x y. x + y) (sum_by-legs_of f a) (sum_by-legs_of f b))
-
-pub crossings-shares_right : (set a b : ℕ) (xs : List ℕ) → AreShares set a b → crossings xs (legs_of set) ≡ crossings xs (legs_of a) + crossings xs (legs_of b)
-crossings-shares_right set a b [] h = refl
-crossings-shares_right set a b (x ∷ xs) h =
-    let cons : (us : List ℕ) → crossings (x ∷ xs) us ≡ count_by (λ y. ltb y x) us + crossings xs us = λ us. sum_by-cons (λ v. count_by (λ y. ltb y v) us) x xs in
-    let here = sum_by-shares (λ y. bit (ltb y x)) set a b h in
-    let ih = crossings-shares_right set a b xs h in
-    let c = cons (legs_of set) in
-    let d = cons (legs_of a) in
-    let e = cons (legs_of b) in
-    omega arith
 
 -- ---- sizes
 

@@ -1,5 +1,5 @@
 //! Sets of legs.
-ghost use Rattle.std.specs.Prelude.{◌≡◌, ℕ, ◌^◌, ◌<◌, ◌≤◌, ◌↔◌, ◌∷◌, IsTrue};
+ghost use Rattle.std.specs.Prelude.{◌≡◌, ℕ, ◌<◌, ◌≤◌, ◌↔◌, ◌∷◌, IsTrue};
 ghost use Rattle.om_legs.specs.Legs.{IsLegSet, holds, size, least, set_of_one, all_legs, union, minus, complement, Meet, IsSubset};
 ghost use Rattle.om_legs.specs.Walks.{without_least, subsets_down};
 ghost use Rattle.om_legs.specs.declared.leg_set.TheConstants.{MOST_LEGS};

@@ -1,5 +1,5 @@
 //! Bytes that are gathered for a sink, many lines at a time.
-ghost use Rattle.std.specs.Prelude.{◌≡◌, ◌+◌, ◌≤◌, ◌++◌, [], length, OnOk};
+ghost use Rattle.std.specs.Prelude.{◌≡◌, ◌+◌, ◌≤◌, [], length, OnOk};
 ghost use Rattle.om_program_text.specs.declared.block.TheConstants.{BLOCK_BYTES};
 ghost use Rattle.om_io.specs.declared.buffer.TheConstants.{ROOM_BYTES};
 ghost use Rattle.om_io.specs.Writing.{Writes, outlet};

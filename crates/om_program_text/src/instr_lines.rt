@@ -1,5 +1,5 @@
 //! The lines of instructions.
-ghost use Rattle.std.specs.Prelude.{◌≡◌, ◌+◌, ◌≤◌, ◌++◌, ◌∷◌, [], length, take, flat_map};
+ghost use Rattle.std.specs.Prelude.{◌≡◌, ◌+◌, ◌≤◌, ◌++◌, ◌∷◌, length, take, flat_map};
 ghost use Rattle.om_io.specs.Lines.{line_text};
 ghost use Rattle.om_io.specs.Writing.{Writes, outlet};
 ghost use Rattle.om_io.specs.declared.buffer.TheConstants.{ROOM_BYTES};

@@ -1,12 +1,11 @@
 //! The rows of a model, whose lines may be longer than the buffer.
-ghost use Rattle.std.specs.Prelude.{◌≡◌, ◌+◌, ◌≤◌, ◌++◌, ◌∷◌, List, length, map, decimal, codes};
-ghost use Rattle.om_ring.specs.declared.numeral.Numeral.{Numeral as NumeralOf};
+ghost use Rattle.std.specs.Prelude.{◌≡◌, ◌+◌, ◌≤◌, ◌++◌, ◌∷◌, List, length, decimal, codes};
 ghost use Rattle.om_ring.specs.Numerals.{numeral_text};
 ghost use Rattle.om_io.specs.Lines.{line_text};
 ghost use Rattle.om_program_text.specs.ProgramText.{particle_words, vertex_words};
 ghost use Rattle.om_program_text.specs.Parts.{names_text, particle_parts, vertex_parts};
 ghost use Rattle.om_program_text.specs.Words.{product_word};
-ghost use Rattle.om_model.specs.Words.{spin_word as spin_word_of, structure_word as structure_word_of, colour_word as colour_word_of};
+ghost use Rattle.om_model.specs.Words.{structure_word as structure_word_of, colour_word as colour_word_of};
 ghost use Rattle.om_io.specs.Writing.{Writes, outlet, all_of};
 ghost use Rattle.om_model.specs.Rules.{HasLength, HasLengths};
 ghost use Rattle.om_code.specs.Plain.{IsPlainVertex, IsNamed};

@@ -1,10 +1,10 @@
 //! Writing the text of a code.
-ghost use Rattle.std.specs.Prelude.{◌≡◌, ◌+◌, ◌≤◌, ◌++◌, length, codes, decimal, OnOk, OnErr};
+ghost use Rattle.std.specs.Prelude.{◌≡◌, ◌+◌, ◌≤◌, ◌++◌, length, codes, OnOk, OnErr};
 ghost use Rattle.om_io.specs.Bytes.{after_told, AppendsPrefix};
 ghost use Rattle.om_io.specs.Causes.{HasCause};
 ghost use Rattle.om_io.specs.Writing.{Writes, outlet, all_of};
 ghost use Rattle.om_io.specs.Lines.{lines_text};
-ghost use Rattle.om_program_text.specs.ProgramText.{program_text, slots_lines, version_words, model_words};
+ghost use Rattle.om_program_text.specs.ProgramText.{program_text, slots_lines};
 ghost use Rattle.om_program_text.specs.Parts.{head_text, model_parts, process_parts, front_parts, instr_parts};
 ghost use Rattle.om_program_text.specs.declared.block.TheConstants.{BLOCK_BYTES};
 ghost use Rattle.om_io.specs.declared.buffer.TheConstants.{ROOM_BYTES};

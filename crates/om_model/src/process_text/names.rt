@@ -1,5 +1,5 @@
 //! The legs of the names of the text of a process.
-ghost use Rattle.std.specs.Prelude.{◌≡◌, ◌^◌, ◌*◌, ◌≤◌, length, IfOk};
+ghost use Rattle.std.specs.Prelude.{◌≡◌, ◌^◌, ◌≤◌, length, IfOk};
 ghost use Rattle.om_model.specs.ProcessText.{GivesLegs, leg_of as leg_of_of, legs_from, names_of};
 
 use super::syntax::{ARROW, is_name};
