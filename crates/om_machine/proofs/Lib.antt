@@ -11,6 +11,7 @@ pub mod IntoSlots
 pub mod FieldKinds
 pub mod Entered
 pub mod VerifiedFacts
+pub mod VertexRows
 pub mod SlotStates
 pub mod ReadyWalk
 pub mod MassRows

@@ -14,4 +14,5 @@ pub mod Machines
 pub mod LoadFaults
 pub mod Sets
 pub mod Filled
+pub mod Readings
 pub mod Laws

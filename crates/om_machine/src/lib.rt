@@ -24,6 +24,7 @@ mod momenta;
 mod numbers;
 mod prepared;
 mod products;
+mod readings;
 mod reads;
 mod rows;
 mod run;
