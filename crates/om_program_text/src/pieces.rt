@@ -1,5 +1,5 @@
 //! Pieces and numbers that are put into bytes at a place.
-ghost use Rattle.std.specs.Prelude.{◌≡◌, ◌+◌, ◌<◌, ◌≤◌, ◌++◌, ◌∷◌, length, take, decimal};
+ghost use Rattle.std.specs.Prelude.{◌≡◌, ◌+◌, ◌<◌, ◌≤◌, [], ◌++◌, ◌∷◌, length, take, decimal};
 ghost use Rattle.om_program_text.specs.declared.pieces.TheConstants.{SPACED_BYTES};
 ghost use Rattle.om_program_text.specs.Spelt.{AreSpelt};
 
@@ -21,6 +21,18 @@ pub(crate) fn put(to: &mut [u8], at: usize, piece: &[u8]) -> usize
     let end = at + piece.len();
     to[at..end].copy_from_slice(piece);
     end
+}
+
+/// Puts a byte in, and answers the place behind it.
+#[inline(always)]
+pub(crate) fn put_byte(to: &mut [u8], at: usize, byte: u8) -> usize
+    requires { at < length to.old }
+    ensures bytes { take result to.new ≡ take at to.old ++ byte ∷ [] }
+    ensures end { result ≡ at + 1 }
+    ensures same { length to.new ≡ length to.old }
+{
+    to[at] = byte;
+    at + 1
 }
 
 /// Puts the decimal of a number in, behind a space, and answers the place behind it. Most numbers are among the spelt ones.
@@ -52,6 +64,9 @@ fn put_spelt(to: &mut [u8], at: usize, number: &Spelling) -> usize
     at + number.len as usize
 }
 
+// Apart from the loop over lines, which then keeps what it reads in registers.
+#[cold]
+#[inline(never)]
 fn put_long(to: &mut [u8], at: usize, k: u64) -> usize
     requires { at + SPACED_BYTES ≤ length to.old }
     ensures bytes { take result to.new ≡ take at to.old ++ 32 ∷ decimal k }
