@@ -11,7 +11,7 @@ ghost use Rattle.om_program_text.specs.ProgramText.{instr_words, load_words};
 ghost use Rattle.om_program_text.specs.Spelt.{AreSpelt};
 
 use crate::block::{BLOCK_BYTES, Block, make_block_room};
-use crate::pieces::{SPACED_BYTES, put, put_byte, put_number};
+use crate::pieces::{SPACED_BYTES, put, put_byte, put_place, put_short};
 use crate::spellings::Spelling;
 use om_code::Instr;
 use om_io::{Failed, ROOM_BYTES, Sink};
@@ -73,8 +73,8 @@ fn put_instr(to: &mut [u8], at: usize, version: u8, spelt: &[Spelling], instr: &
         }
         Instr::Prop { of, den } => {
             let at = put(to, at, b"prop");
-            let at = put_number(to, at, spelt, u64::from(*of) + 1);
-            let at = put_number(to, at, spelt, u64::from(*den) + 1);
+            let at = put_place(to, at, spelt, *of);
+            let at = put_place(to, at, spelt, *den);
             put_byte(to, at, b'\n')
         }
         Instr::Key {
@@ -101,11 +101,11 @@ fn put_load(to: &mut [u8], at: usize, version: u8, spelt: &[Spelling], slot: u32
 {
     let at = put(to, at, b"load");
     if version == 1 {
-        let at = put_number(to, at, spelt, u64::from(leg));
+        let at = put_short(to, at, leg);
         return put_byte(to, at, b'\n');
     }
-    let at = put_number(to, at, spelt, u64::from(slot) + 1);
-    let at = put_number(to, at, spelt, u64::from(leg));
+    let at = put_place(to, at, spelt, slot);
+    let at = put_short(to, at, leg);
     put_byte(to, at, b'\n')
 }
 
@@ -129,10 +129,10 @@ fn put_term(
     ensures same { length to.new ≡ length to.old }
 {
     let at = put(to, at, word);
-    let at = put_number(to, at, spelt, u64::from(made) + 1);
+    let at = put_place(to, at, spelt, made);
     let at = put_sign(to, at, minus);
-    let at = put_number(to, at, spelt, u64::from(vertex) + 1);
-    let at = put_number(to, at, spelt, u64::from(choice));
+    let at = put_place(to, at, spelt, vertex);
+    let at = put_short(to, at, choice);
     let at = put_branches(to, at, spelt, branches);
     put_byte(to, at, b'\n')
 }
@@ -167,14 +167,14 @@ fn put_branches(to: &mut [u8], at: usize, spelt: &[Spelling], branches: &Branche
     ensures same { length to.new ≡ length to.old }
 {
     let [first, second, third, fourth] = branches.nodes;
-    let at = put_number(to, at, spelt, u64::from(first) + 1);
-    let at = put_number(to, at, spelt, u64::from(second) + 1);
+    let at = put_place(to, at, spelt, first);
+    let at = put_place(to, at, spelt, second);
     if branches.count == 2 {
         return at;
     }
-    let at = put_number(to, at, spelt, u64::from(third) + 1);
+    let at = put_place(to, at, spelt, third);
     if branches.count == 3 {
         return at;
     }
-    put_number(to, at, spelt, u64::from(fourth) + 1)
+    put_place(to, at, spelt, fourth)
 }
