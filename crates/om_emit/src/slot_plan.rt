@@ -37,6 +37,14 @@ impl SlotPlan {
         }
     }
 
+    /// The slots, by register.
+    pub(crate) fn slots(&self) -> &[u32]
+        ensures same { result.now ≡ self.now.slots.items }
+        ensures length { length result.now ≡ vec_len self.now.slots }
+    {
+        self.slots.as_slice()
+    }
+
     /// How many slots there are.
     pub fn count(&self) -> u32
         ensures { result ≡ self.now.count }
@@ -74,6 +82,7 @@ pub(crate) fn plan_with_keys(
     requires known { (r : ℕ) → is_named (key_lines keys.now) r ≡ true → is_named (lines_of_code instrs.now) r ≡ true }
     ensures plan { IfOk result (λ plan. (r : ℕ) → is_named (lines_of_code instrs.now) r ≡ true → slot_in_plan plan r ≡ first_fit (lines_of_code instrs.now ++ key_lines keys.now) r) }
     ensures count { IfOk result (λ plan. plan.count ≡ width (lines_of_code instrs.now ++ key_lines keys.now)) }
+    ensures length { IfOk result (λ plan. vec_len plan.slots ≡ registers) }
 {
     let last_uses = last_uses_with_keys(alloc, instrs, keys, registers)?;
     let plan = plan_of(alloc, instrs, &last_uses)?;
@@ -87,6 +96,7 @@ fn plan_of(alloc: Global, instrs: &[Instr], last_uses: &[usize]) -> Result<SlotP
     requires room { (i : ℕ) → i ≤ length instrs.now → (planned last_uses.now (lines_of_code instrs.now) (no_slots (length last_uses.now)) i).count ≤ length last_uses.now }
     ensures slots { IfOk result (λ plan. plan.slots.items ≡ map slot_or_0 (planned last_uses.now (lines_of_code instrs.now) (no_slots (length last_uses.now)) (length instrs.now)).slots) }
     ensures count { IfOk result (λ plan. plan.count ≡ (planned last_uses.now (lines_of_code instrs.now) (no_slots (length last_uses.now)) (length instrs.now)).count) }
+    ensures length { IfOk result (λ plan. vec_len plan.slots ≡ length last_uses.now) }
 {
     let Ok(slots) = vec![in alloc; None; last_uses.len()] else {
         return Err(NoMemory);
@@ -111,7 +121,8 @@ fn plan_of(alloc: Global, instrs: &[Instr], last_uses: &[usize]) -> Result<SlotP
 
 // The slots of registers, 0 where one has none.
 fn slots_of(alloc: Global, given: &[Option<u32>]) -> Result<Vec<u32>, NoMemory>
-    ensures { IfOk result (λ slots. slots.items ≡ map slot_or_0 given.now) }
+    ensures slots { IfOk result (λ slots. slots.items ≡ map slot_or_0 given.now) }
+    ensures length { IfOk result (λ slots. vec_len slots ≡ length given.now) }
 {
     let mut slots = Vec::new(alloc);
     for slot in given {

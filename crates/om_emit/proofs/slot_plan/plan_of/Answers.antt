@@ -39,7 +39,7 @@ ended : (last : List ℕ) (lines : List (List ℕ)) (none p : Planning) (i n : �
 ended last lines none p i n e l = e ∙ ap (planned last lines none) l
 
 pub returns-clause-slots : goal.returns-clause-slots
-returns-clause-slots c = c.in_ok-slots.ensures ∙ ap (map slot_or_0) (c.as_slice.ensures.value ∙ ap (λ (p : Planning). p.slots) (ended c.args.last_uses.now (lines_of_code c.args.instrs.now) (no_slots (length c.args.last_uses.now)) (planning_of c.loop-i.planner) c.loop-i.i (length c.args.instrs.now) c.loop-i.invariant.planned (omega arith)))
+returns-clause-slots c = c.in_ok-slots.ensures.slots ∙ ap (map slot_or_0) (c.as_slice.ensures.value ∙ ap (λ (p : Planning). p.slots) (ended c.args.last_uses.now (lines_of_code c.args.instrs.now) (no_slots (length c.args.last_uses.now)) (planning_of c.loop-i.planner) c.loop-i.i (length c.args.instrs.now) c.loop-i.invariant.planned (omega arith)))
 
 pub returns-clause-count : goal.returns-clause-count
 returns-clause-count c = ap (λ (p : Planning). p.count) (ended c.args.last_uses.now (lines_of_code c.args.instrs.now) (no_slots (length c.args.last_uses.now)) (planning_of c.loop-i.planner) c.loop-i.i (length c.args.instrs.now) c.loop-i.invariant.planned (omega arith))
