@@ -1,10 +1,13 @@
 -- Instructions that are replaced one after the other.
 use Rattle.std.proofs.Common.{◌≡◌, ℕ, zero, suc, ◌+◌, ◌<◌, List, [], ◌∷◌, ◌++◌, length, map, take, drop, get_or, slice_get, slice_set, Some, sym, ◌∙◌, ap, ap₂, subst, arith, append_assoc}
+use Rattle.std.specs.Prelude.{All}
 use Rattle.std.specs.List.{AllByRecursion}
 use Rattle.std.proofs.lemmas.List.{map-set, map-append, length-map, take_more}
 use Rattle.std.proofs.lemmas.Option.{get_or_from_slice_get}
 use Rattle.std.proofs.Math.ListN.{get_or-map}
 use Rattle.om_graph.proofs.AddedTerms.{set_next}
+use Rattle.om_graph.specs.declared.KeyTerm.{KeyTerm}
+use Rattle.om_code.specs.Slots.{nodes_of}
 use Rattle.om_code.specs.declared.code.Instr.{Instr}
 use Rattle.om_code.specs.Ops.{Op, op_of}
 
@@ -42,3 +45,17 @@ holds_behind P (y ∷ xs) x h p = (h.0, holds_behind P xs x h.1 p)
 
 pub holds_pushed : {A : Type 0} (P : A → Type 0) (now new : List A) (x : A) → AllByRecursion P now → P x → new ≡ now ++ x ∷ [] → AllByRecursion P new
 holds_pushed P now new x h p e = subst (AllByRecursion P) (sym e) (holds_behind P now x h p)
+
+-- what holds of each member holds at each place
+all_of_each : {A : Type 0} (P : A → Type 0) (xs : List A) → AllByRecursion P xs → All P xs
+all_of_each P [] h k d l = absurd (omega (arith, l))
+all_of_each P (x ∷ xs) h zero d l = h.0
+all_of_each P (x ∷ xs) h (suc k) d l = all_of_each P xs h.1 k d (omega (arith, l))
+
+-- the nodes of keystone terms have slots
+pub keys_placed : (n m : ℕ) (keys named : List KeyTerm) → AllByRecursion (λ (t : KeyTerm). AllByRecursion (λ b. b < n) (nodes_of t.branches)) keys → m ≡ n → named ≡ keys → All (λ (t : KeyTerm). All (λ r. r < m) (nodes_of t.branches)) named
+keys_placed n m keys named h e f =
+    let each : All (λ (t : KeyTerm). All (λ r. r < n) (nodes_of t.branches)) keys = λ k t l. all_of_each (λ r. r < n) (nodes_of (get_or keys k t).branches) (all_of_each (λ (t : KeyTerm). AllByRecursion (λ b. b < n) (nodes_of t.branches)) keys h k t l) in
+    let P : List KeyTerm → Type 0 = λ ts. All (λ (t : KeyTerm). All (λ r. r < n) (nodes_of t.branches)) ts in
+    let Q : ℕ → Type 0 = λ q. All (λ (t : KeyTerm). All (λ r. r < q) (nodes_of t.branches)) named in
+    subst Q (sym e) (subst P (sym f) each)

@@ -1,8 +1,9 @@
 -- The plans of instructions, and of instructions with keystone terms behind them.
-use Rattle.std.proofs.Common.{◌≡◌, ℕ, suc, ◌+◌, ◌<◌, ◌≤◌, List, [], ◌++◌, length, get_or, true, refl, sym, ◌∙◌, ap, ap₂, subst, arith, Option, None}
+use Rattle.std.proofs.Common.{◌≡◌, ℕ, suc, ◌+◌, ◌<◌, ◌≤◌, List, [], ◌++◌, length, map, get_or, slice_index, true, refl, sym, ◌∙◌, ap, ap₂, subst, arith, Option, None}
 use Rattle.std.specs.Prelude.{All}
 use Rattle.std.specs.List.{concat}
 use Rattle.std.proofs.lemmas.List.{length-map, length-append, get_or-append-add, get_or-map}
+use Rattle.std.proofs.Math.ListN as many
 use Rattle.om_ring.specs.Members.{In}
 use Rattle.om_graph.specs.declared.KeyTerm.{KeyTerm}
 use Rattle.om_code.specs.Slots.{nodes_of}
@@ -15,6 +16,10 @@ use Rattle.om_emit.specs.Planning.{Planning, no_slots, mark_each, planned, last_
 use Rattle.om_emit.proofs.PlanLoop.{in_is, named_is, named_small, all_small, all_in, length_lines, last_uses_front}
 use Rattle.om_emit.proofs.PlanFronts.{in_lines, front_room, front_plan, front_count}
 use Rattle.om_emit.proofs.PlanMade.{count_small, slot-is, count-is}
+
+-- the slot of a register in a list of slots, 0 where one has none
+slot_placed : (slots : List ℕ) (made : List (Option ℕ)) (r : ℕ) → slots ≡ map slot_or_0 made → slice_index slots r ≡ slot_or_0 (get_or made r None)
+slot_placed slots made r e = ap (λ xs. slice_index xs r) e ∙ many.get_or-map slot_or_0 made r None
 
 -- the registers stand in the list of last uses
 pub all_within : (instrs : List Instr) (n : ℕ) (last : List ℕ) → ((r : ℕ) → is_named (lines_of_code instrs) r ≡ true → r < n) → length last ≡ n → All (λ x. All (λ r. r < length last) (registers_of x)) instrs
@@ -30,9 +35,10 @@ module _ (instrs : List Instr) (n : ℕ) (small : (r : ℕ) → is_named (lines_
         let few = count_small (lines_of_code instrs) n (named_small instrs n small) i (omega (arith, l, length_lines instrs)) in
         subst (λ m. (planned last (lines_of_code instrs) (no_slots m) i).count ≤ m) (sym size) (subst (λ (p : Planning). p.count ≤ n) (sym (walk i)) few)
 
-    pub plan_done : (slots : List (Option ℕ)) (r : ℕ) → slots ≡ (planned last (lines_of_code instrs) (no_slots (length last)) (length instrs)).slots → is_named (lines_of_code instrs) r ≡ true → slot_or_0 (get_or slots r None) ≡ first_fit (lines_of_code instrs) r
+    pub plan_done : (slots : List ℕ) (r : ℕ) → slots ≡ map slot_or_0 (planned last (lines_of_code instrs) (no_slots (length last)) (length instrs)).slots → is_named (lines_of_code instrs) r ≡ true → slice_index slots r ≡ first_fit (lines_of_code instrs) r
     plan_done slots r e h =
-        ap (λ xs. slot_or_0 (get_or xs r None)) (e ∙ ap₂ (λ m i. (planned last (lines_of_code instrs) (no_slots m) i).slots) size (sym (length_lines instrs)))
+        slot_placed slots (planned last (lines_of_code instrs) (no_slots (length last)) (length instrs)).slots r e
+        ∙ ap (λ xs. slot_or_0 (get_or xs r None)) (ap₂ (λ m i. (planned last (lines_of_code instrs) (no_slots m) i).slots) size (sym (length_lines instrs)))
         ∙ ap (λ (p : Planning). slot_or_0 (get_or p.slots r None)) (walk (length (lines_of_code instrs)))
         ∙ slot-is (lines_of_code instrs) n (named_small instrs n small) (length (lines_of_code instrs)) (omega arith) refl r (small r h)
 
@@ -65,10 +71,11 @@ module _ (instrs : List Instr) (n : ℕ) (small : (r : ℕ) → is_named (lines_
     key_room i l = subst (λ m. (planned last (lines_of_code instrs) (no_slots m) i).count ≤ m) (sym size)
         (front_room (lines_of_code instrs) (key_lines keys) key_known n (named_small instrs n small) last all_marks i (omega (arith, l, length_lines instrs)))
 
-    pub key_plan_done : (slots : List (Option ℕ)) (r : ℕ) → slots ≡ (planned last (lines_of_code instrs) (no_slots (length last)) (length instrs)).slots → is_named (lines_of_code instrs) r ≡ true
-        → slot_or_0 (get_or slots r None) ≡ first_fit (lines_of_code instrs ++ key_lines keys) r
+    pub key_plan_done : (slots : List ℕ) (r : ℕ) → slots ≡ map slot_or_0 (planned last (lines_of_code instrs) (no_slots (length last)) (length instrs)).slots → is_named (lines_of_code instrs) r ≡ true
+        → slice_index slots r ≡ first_fit (lines_of_code instrs ++ key_lines keys) r
     key_plan_done slots r e h =
-        ap (λ xs. slot_or_0 (get_or xs r None)) (e ∙ ap₂ (λ m i. (planned last (lines_of_code instrs) (no_slots m) i).slots) size (sym (length_lines instrs)))
+        slot_placed slots (planned last (lines_of_code instrs) (no_slots (length last)) (length instrs)).slots r e
+        ∙ ap (λ xs. slot_or_0 (get_or xs r None)) (ap₂ (λ m i. (planned last (lines_of_code instrs) (no_slots m) i).slots) size (sym (length_lines instrs)))
         ∙ front_plan (lines_of_code instrs) (key_lines keys) key_known n (named_small instrs n small) last all_marks r (small r h)
 
     pub key_count_done : (count : ℕ) → count ≡ (planned last (lines_of_code instrs) (no_slots (length last)) (length instrs)).count → count ≡ width (lines_of_code instrs ++ key_lines keys)

@@ -2,7 +2,6 @@
 use Rattle.std.specs.Prelude.{ℕ, zero, suc, ◌+◌, List, [], ◌∷◌, Option, Some, None, slice_index, slice_index_or, slice_set, replicate, if◌then◌else◌, ◌==◌}
 use Rattle.std.specs.Ordering.{nat_cmp}
 use Rattle.std.specs.BTreeSet.{insert_key}
-use Rattle.om_code.specs.SlotPlans.{slot_or_0}
 use Rattle.om_emit.specs.declared.planner.Planner.{Planner}
 use Rattle.om_emit.specs.declared.slot_plan.SlotPlan.{SlotPlan}
 
@@ -66,4 +65,4 @@ last_uses count lines (suc n) = mark_each n (last_uses count lines n) (slice_ind
 
 -- the slot of a register in a plan, or 0 where it has none
 abbrev pub slot_in_plan : SlotPlan → ℕ → ℕ
-slot_in_plan plan r = slot_or_0 (slice_index_or plan.slots.items r None)
+slot_in_plan plan r = slice_index plan.slots.items r

@@ -31,7 +31,7 @@ pub(crate) fn node_code(
     ensures { IfOk result (λ instrs. map op_of instrs
         ≡ walk_ops (λ node. place_of dens.now (den_of_node (anti_field_of particles.now) n node)) 0 graph.now.nodes graph.now.terms) }
 {
-    let mut instrs = List::new(alloc);
+    let mut instrs = List::with_room(alloc, most_instrs(graph))?;
     let terms = graph.terms.as_slice();
     let mut next = 0;
     for (k, node) in graph.nodes.as_slice().iter().enumerate() {
@@ -40,6 +40,12 @@ pub(crate) fn node_code(
         next += count;
     }
     Ok(instrs)
+}
+
+// How many instructions the code of a graph has: one a node, its load or its propagator, one a term and one a keystone term.
+fn most_instrs(graph: &Graph) -> usize {
+    let made = graph.nodes.len().saturating_add(graph.terms.len());
+    made.saturating_add(graph.keys.len())
 }
 
 // The terms from a place on.

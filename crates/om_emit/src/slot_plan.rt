@@ -1,7 +1,7 @@
 //! The first-fit plan.
-ghost use Rattle.std.specs.Prelude.{◌≡◌, ◌+◌, ◌++◌, ◌^◌, ◌<◌, ◌≤◌, ℕ, true, length, IfOk, vec_len, All};
+ghost use Rattle.std.specs.Prelude.{◌≡◌, ◌+◌, ◌++◌, ◌^◌, ◌<◌, ◌≤◌, ℕ, true, map, length, IfOk, vec_len, All};
 ghost use Rattle.om_code.specs.Spans.{is_named, width};
-ghost use Rattle.om_code.specs.SlotPlans.{first_fit};
+ghost use Rattle.om_code.specs.SlotPlans.{first_fit, slot_or_0};
 ghost use Rattle.om_code.specs.Ops.{registers_of, lines_of_code};
 ghost use Rattle.om_code.specs.Slots.{nodes_of};
 ghost use Rattle.om_emit.specs.GraphCode.{key_lines};
@@ -18,19 +18,31 @@ use std::collections::BTreeSet;
 /// Slots for the registers of an instruction list.
 #[derive(Drop)]
 pub struct SlotPlan {
-    slots: Vec<Option<u32>>,
+    // by register, 0 where no instruction names it
+    slots: Vec<u32>,
     count: u32,
 }
 
 impl SlotPlan {
     /// The slot of a register, or 0 where no instruction names it.
+    #[inline(always)]
     pub fn slot(&self, register: u32) -> u32
         ensures { result ≡ slot_in_plan self.now register }
     {
-        match self.slots.get(register as usize) {
-            Some(Some(slot)) => *slot,
-            _ => 0,
+        let register = register as usize;
+        if register < self.slots.len() {
+            self.slots[register]
+        } else {
+            0
         }
+    }
+
+    /// The slots, by register.
+    pub(crate) fn slots(&self) -> &[u32]
+        ensures same { result.now ≡ self.now.slots.items }
+        ensures length { length result.now ≡ vec_len self.now.slots }
+    {
+        self.slots.as_slice()
     }
 
     /// How many slots there are.
@@ -70,6 +82,7 @@ pub(crate) fn plan_with_keys(
     requires known { (r : ℕ) → is_named (key_lines keys.now) r ≡ true → is_named (lines_of_code instrs.now) r ≡ true }
     ensures plan { IfOk result (λ plan. (r : ℕ) → is_named (lines_of_code instrs.now) r ≡ true → slot_in_plan plan r ≡ first_fit (lines_of_code instrs.now ++ key_lines keys.now) r) }
     ensures count { IfOk result (λ plan. plan.count ≡ width (lines_of_code instrs.now ++ key_lines keys.now)) }
+    ensures length { IfOk result (λ plan. vec_len plan.slots ≡ registers) }
 {
     let last_uses = last_uses_with_keys(alloc, instrs, keys, registers)?;
     let plan = plan_of(alloc, instrs, &last_uses)?;
@@ -81,8 +94,9 @@ fn plan_of(alloc: Global, instrs: &[Instr], last_uses: &[usize]) -> Result<SlotP
     requires few { length last_uses.now < 2 ^ 31 }
     requires in_range { All (λ instr. All (λ r. r < length last_uses.now) (registers_of instr)) instrs.now }
     requires room { (i : ℕ) → i ≤ length instrs.now → (planned last_uses.now (lines_of_code instrs.now) (no_slots (length last_uses.now)) i).count ≤ length last_uses.now }
-    ensures slots { IfOk result (λ plan. plan.slots.items ≡ (planned last_uses.now (lines_of_code instrs.now) (no_slots (length last_uses.now)) (length instrs.now)).slots) }
+    ensures slots { IfOk result (λ plan. plan.slots.items ≡ map slot_or_0 (planned last_uses.now (lines_of_code instrs.now) (no_slots (length last_uses.now)) (length instrs.now)).slots) }
     ensures count { IfOk result (λ plan. plan.count ≡ (planned last_uses.now (lines_of_code instrs.now) (no_slots (length last_uses.now)) (length instrs.now)).count) }
+    ensures length { IfOk result (λ plan. vec_len plan.slots ≡ length last_uses.now) }
 {
     let Ok(slots) = vec![in alloc; None; last_uses.len()] else {
         return Err(NoMemory);
@@ -98,10 +112,34 @@ fn plan_of(alloc: Global, instrs: &[Instr], last_uses: &[usize]) -> Result<SlotP
         planner.give_all(named);
         planner.release_all(named, last_uses, i)?;
     }
+    let slots = slots_of(alloc, planner.slots.as_slice())?;
     Ok(SlotPlan {
-        slots: planner.slots,
+        slots,
         count: planner.count,
     })
+}
+
+// The slots of registers, 0 where one has none.
+fn slots_of(alloc: Global, given: &[Option<u32>]) -> Result<Vec<u32>, NoMemory>
+    ensures slots { IfOk result (λ slots. slots.items ≡ map slot_or_0 given.now) }
+    ensures length { IfOk result (λ slots. vec_len slots ≡ length given.now) }
+{
+    let mut slots = Vec::new(alloc);
+    for slot in given {
+        if slots.push(slot_or_0(*slot)).is_err() {
+            return Err(NoMemory);
+        }
+    }
+    Ok(slots)
+}
+
+fn slot_or_0(slot: Option<u32>) -> u32
+    ensures { result ≡ slot_or_0 slot }
+{
+    match slot {
+        Some(number) => number,
+        None => 0,
+    }
 }
 
 // By register, the last of the instructions and the keystone terms behind them that names it.
@@ -118,15 +156,30 @@ fn last_uses_with_keys(
 {
     let mut last = last_uses(alloc, instrs, registers)?;
     for (i, key) in keys.iter().enumerate() {
-        mark_each(&mut last, nodes_of(&key.branches), instrs.len() + i);
+        mark_branches(&mut last, &key.branches, instrs.len() + i);
     }
     Ok(last)
 }
 
-fn nodes_of(branches: &Branches) -> &[u32]
-    ensures { result.now ≡ nodes_of branches.now }
+// Marks the nodes that meet, as `mark_each` does.
+#[inline(always)]
+#[tactic(auto, unfolding(crate::specs::Planning::mark_each))]
+fn mark_branches(last: &mut Vec<usize>, branches: &Branches, at: usize)
+    requires in_range { All (λ r. r < vec_len last.old) (nodes_of branches.now) }
+    ensures marked { last.new.items ≡ mark_each at last.old.items (nodes_of branches.now) }
+    ensures length { vec_len last.new ≡ vec_len last.old }
 {
-    &branches.nodes[..branches.count as usize]
+    let [first, second, third, fourth] = branches.nodes;
+    last[first as usize] = at;
+    last[second as usize] = at;
+    if branches.count == 2 {
+        return;
+    }
+    last[third as usize] = at;
+    if branches.count == 3 {
+        return;
+    }
+    last[fourth as usize] = at;
 }
 
 // By register, the last instruction that names it.

@@ -13,14 +13,6 @@ append_more : {A : Type 0} (xs : List A) (y : A) (ys : List A) → xs ++ (y ∷ 
 append_more [] y ys = refl
 append_more (x ∷ xs) y ys = ap (λ zs. x ∷ zs) (append_more xs y ys)
 
-pub mark_all_step : (whole now new : List Bool) (ns : List ℕ) (i : ℕ) → i < length ns → whole ≡ mark_all now (drop i ns) → new ≡ slice_set now (get_or ns i 0) true → whole ≡ mark_all new (drop (i + 1) ns)
-unfolding mark_all
-mark_all_step whole now new ns i h e g = e ∙ ap (mark_all now) (drop_more ns i 0 h) ∙ ap (λ m. mark_all m (drop (i + 1) ns)) (sym g)
-
-pub mark_all_end : (whole now : List Bool) (ns : List ℕ) (i : ℕ) → length ns ≤ i → whole ≡ mark_all now (drop i ns) → now ≡ whole
-unfolding mark_all
-mark_all_end whole now ns i h e = sym (e ∙ ap (mark_all now) (drop_of_length-le ns h))
-
 pub mark_keys_step : (whole now new : List Bool) (ys : List KeyTerm) (y : KeyTerm) (i : ℕ) → i < length ys → y ≡ get_or ys i y → whole ≡ mark_keys now (map unsigned_key (drop i ys)) → new ≡ mark_all now (unsigned_key y).branches → whole ≡ mark_keys new (map unsigned_key (drop (i + 1) ys))
 unfolding mark_keys
 mark_keys_step whole now new ys y i h q e g =

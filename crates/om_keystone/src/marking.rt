@@ -32,26 +32,31 @@ fn mark_keys(marks: &mut [bool], keys: &[KeyTerm])
     ensures { marks.new ≡ mark_keys marks.old (map unsigned_key keys.now) }
 {
     for key in keys {
-        mark_all(marks, nodes_of(&key.branches));
+        mark_branches(marks, &key.branches);
     }
 }
 
-// The nodes that meet.
-fn nodes_of(branches: &Branches) -> &[u32]
-    ensures { result.now ≡ nodes_at branches.now }
+// Marks the nodes that meet.
+#[inline(always)]
+#[tactic(auto, unfolding(crate::specs::Pruning::mark_all))]
+fn mark_branches(marks: &mut [bool], branches: &Branches)
+    ensures { marks.new ≡ mark_all marks.old (nodes_at branches.now) }
 {
-    &branches.nodes[..branches.count as usize]
-}
-
-// Marks nodes; a number past the last node marks nothing.
-fn mark_all(marks: &mut [bool], nodes: &[u32])
-    ensures { marks.new ≡ mark_all marks.old nodes.now }
-{
-    for node in nodes {
-        mark(marks, *node);
+    let [first, second, third, fourth] = branches.nodes;
+    mark(marks, first);
+    mark(marks, second);
+    if branches.count == 2 {
+        return;
     }
+    mark(marks, third);
+    if branches.count == 3 {
+        return;
+    }
+    mark(marks, fourth);
 }
 
+// Marks a node; a number past the last node marks nothing.
+#[inline(always)]
 fn mark(marks: &mut [bool], node: u32)
     ensures { marks.new ≡ slice_set marks.old node true }
 {
@@ -69,7 +74,7 @@ fn mark_terms(marks: &mut [bool], terms: &[Term])
     for i in (0..terms.len()).rev() {
         let term = terms[i];
         if has_mark(marks, term.node) {
-            mark_all(marks, nodes_of(&term.branches));
+            mark_branches(marks, &term.branches);
         }
     }
 }

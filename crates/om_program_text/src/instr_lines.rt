@@ -1,5 +1,5 @@
 //! The lines of instructions.
-ghost use Rattle.std.specs.Prelude.{◌≡◌, ◌+◌, ◌≤◌, ◌++◌, ◌∷◌, length, take, flat_map};
+ghost use Rattle.std.specs.Prelude.{◌≡◌, ◌+◌, ◌≤◌, [], ◌++◌, ◌∷◌, length, take, flat_map};
 ghost use Rattle.om_io.specs.Lines.{line_text};
 ghost use Rattle.om_io.specs.Writing.{Writes, outlet};
 ghost use Rattle.om_io.specs.declared.buffer.TheConstants.{ROOM_BYTES};
@@ -11,7 +11,7 @@ ghost use Rattle.om_program_text.specs.ProgramText.{instr_words, load_words};
 ghost use Rattle.om_program_text.specs.Spelt.{AreSpelt};
 
 use crate::block::{BLOCK_BYTES, Block, make_block_room};
-use crate::pieces::{SPACED_BYTES, put, put_number};
+use crate::pieces::{SPACED_BYTES, put, put_byte, put_place, put_short};
 use crate::spellings::Spelling;
 use om_code::Instr;
 use om_io::{Failed, ROOM_BYTES, Sink};
@@ -66,15 +66,16 @@ fn put_instr(to: &mut [u8], at: usize, version: u8, spelt: &[Spelling], instr: &
             choice,
             branches,
         } => {
+            let word = *b"fuse";
             put_term(
-                to, at, b"fuse", spelt, *slot, *minus, *vertex, *choice, branches,
+                to, at, &word, spelt, *slot, *minus, *vertex, *choice, branches,
             )
         }
         Instr::Prop { of, den } => {
             let at = put(to, at, b"prop");
-            let at = put_number(to, at, spelt, u64::from(*of) + 1);
-            let at = put_number(to, at, spelt, u64::from(*den) + 1);
-            put(to, at, b"\n")
+            let at = put_place(to, at, spelt, *of);
+            let at = put_place(to, at, spelt, *den);
+            put_byte(to, at, b'\n')
         }
         Instr::Key {
             flow,
@@ -83,8 +84,9 @@ fn put_instr(to: &mut [u8], at: usize, version: u8, spelt: &[Spelling], instr: &
             choice,
             branches,
         } => {
+            let word = *b"key";
             put_term(
-                to, at, b"key", spelt, *flow, *minus, *vertex, *choice, branches,
+                to, at, &word, spelt, *flow, *minus, *vertex, *choice, branches,
             )
         }
     }
@@ -99,12 +101,12 @@ fn put_load(to: &mut [u8], at: usize, version: u8, spelt: &[Spelling], slot: u32
 {
     let at = put(to, at, b"load");
     if version == 1 {
-        let at = put_number(to, at, spelt, u64::from(leg));
-        return put(to, at, b"\n");
+        let at = put_short(to, at, leg);
+        return put_byte(to, at, b'\n');
     }
-    let at = put_number(to, at, spelt, u64::from(slot) + 1);
-    let at = put_number(to, at, spelt, u64::from(leg));
-    put(to, at, b"\n")
+    let at = put_place(to, at, spelt, slot);
+    let at = put_short(to, at, leg);
+    put_byte(to, at, b'\n')
 }
 
 // Puts the line of a term in, and answers the place behind it.
@@ -127,21 +129,32 @@ fn put_term(
     ensures same { length to.new ≡ length to.old }
 {
     let at = put(to, at, word);
-    let at = put_number(to, at, spelt, u64::from(made) + 1);
-    let at = put(to, at, sign_piece(minus));
-    let at = put_number(to, at, spelt, u64::from(vertex) + 1);
-    let at = put_number(to, at, spelt, u64::from(choice));
+    let at = put_place(to, at, spelt, made);
+    let at = put_sign(to, at, minus);
+    let at = put_place(to, at, spelt, vertex);
+    let at = put_short(to, at, choice);
     let at = put_branches(to, at, spelt, branches);
-    put(to, at, b"\n")
+    put_byte(to, at, b'\n')
 }
 
-// The sign behind a space.
+// Puts the sign behind a space in, and answers the place behind it.
 #[inline(always)]
-fn sign_piece(minus: bool) -> &'static [u8]
-    ensures value { result.now ≡ 32 ∷ sign_word minus }
-    ensures short { length result.now ≡ 2 }
+fn put_sign(to: &mut [u8], at: usize, minus: bool) -> usize
+    requires { at + 2 ≤ length to.old }
+    ensures bytes { take result to.new ≡ take at to.old ++ 32 ∷ sign_word minus }
+    ensures end { result ≡ at + 2 }
+    ensures same { length to.new ≡ length to.old }
 {
-    if minus { b" -" } else { b" +" }
+    let sign = sign_byte(minus);
+    let at = put_byte(to, at, b' ');
+    put_byte(to, at, sign)
+}
+
+#[inline(always)]
+fn sign_byte(minus: bool) -> u8
+    ensures { result ∷ [] ≡ sign_word minus }
+{
+    if minus { b'-' } else { b'+' }
 }
 
 // Puts each branch behind a space in, and answers the place behind them.
@@ -154,14 +167,14 @@ fn put_branches(to: &mut [u8], at: usize, spelt: &[Spelling], branches: &Branche
     ensures same { length to.new ≡ length to.old }
 {
     let [first, second, third, fourth] = branches.nodes;
-    let at = put_number(to, at, spelt, u64::from(first) + 1);
-    let at = put_number(to, at, spelt, u64::from(second) + 1);
+    let at = put_place(to, at, spelt, first);
+    let at = put_place(to, at, spelt, second);
     if branches.count == 2 {
         return at;
     }
-    let at = put_number(to, at, spelt, u64::from(third) + 1);
+    let at = put_place(to, at, spelt, third);
     if branches.count == 3 {
         return at;
     }
-    put_number(to, at, spelt, u64::from(fourth) + 1)
+    put_place(to, at, spelt, fourth)
 }

@@ -1,5 +1,6 @@
 //! Pieces and numbers that are put into bytes at a place.
-ghost use Rattle.std.specs.Prelude.{◌≡◌, ◌+◌, ◌<◌, ◌≤◌, ◌++◌, ◌∷◌, length, take, decimal};
+ghost use Rattle.std.specs.Prelude.{◌≡◌, ◌+◌, ◌<◌, ◌≤◌, [], ◌++◌, ◌∷◌, length, take, decimal};
+ghost use Rattle.om_model.specs.TermText.{place_word};
 ghost use Rattle.om_program_text.specs.declared.pieces.TheConstants.{SPACED_BYTES};
 ghost use Rattle.om_program_text.specs.Spelt.{AreSpelt};
 
@@ -23,19 +24,48 @@ pub(crate) fn put(to: &mut [u8], at: usize, piece: &[u8]) -> usize
     end
 }
 
-/// Puts the decimal of a number in, behind a space, and answers the place behind it. Most numbers are among the spelt ones.
+/// Puts a byte in, and answers the place behind it.
 #[inline(always)]
-pub(crate) fn put_number(to: &mut [u8], at: usize, spelt: &[Spelling], k: u64) -> usize
+pub(crate) fn put_byte(to: &mut [u8], at: usize, byte: u8) -> usize
+    requires { at < length to.old }
+    ensures bytes { take result to.new ≡ take at to.old ++ byte ∷ [] }
+    ensures end { result ≡ at + 1 }
+    ensures same { length to.new ≡ length to.old }
+{
+    to[at] = byte;
+    at + 1
+}
+
+/// Puts the number of a place in, which counts from 0, behind a space, and answers the place behind it. Most are among the spelt ones.
+#[inline(always)]
+pub(crate) fn put_place(to: &mut [u8], at: usize, spelt: &[Spelling], k: u32) -> usize
     requires room { at + SPACED_BYTES ≤ length to.old }
     requires spelt { AreSpelt spelt.now }
+    ensures bytes { take result to.new ≡ take at to.old ++ 32 ∷ place_word k }
+    ensures short { result ≤ at + SPACED_BYTES }
+    ensures same { length to.new ≡ length to.old }
+{
+    let place = k as usize;
+    if place < spelt.len() {
+        put_spelt(to, at, &spelt[place])
+    } else {
+        put_long(to, at, u64::from(k) + 1)
+    }
+}
+
+/// Puts the decimal of a number in, which mostly has one digit, behind a space, and answers the place behind it.
+#[inline(always)]
+pub(crate) fn put_short(to: &mut [u8], at: usize, k: u8) -> usize
+    requires { at + SPACED_BYTES ≤ length to.old }
     ensures bytes { take result to.new ≡ take at to.old ++ 32 ∷ decimal k }
     ensures short { result ≤ at + SPACED_BYTES }
     ensures same { length to.new ≡ length to.old }
 {
-    if k < spelt.len() as u64 {
-        put_spelt(to, at, &spelt[k as usize])
+    if k < 10 {
+        let at = put_byte(to, at, b' ');
+        put_byte(to, at, b'0' + k)
     } else {
-        put_long(to, at, k)
+        put_long(to, at, u64::from(k))
     }
 }
 
@@ -52,6 +82,9 @@ fn put_spelt(to: &mut [u8], at: usize, number: &Spelling) -> usize
     at + number.len as usize
 }
 
+// Apart from the loop over lines, which then keeps what it reads in registers.
+#[cold]
+#[inline(never)]
 fn put_long(to: &mut [u8], at: usize, k: u64) -> usize
     requires { at + SPACED_BYTES ≤ length to.old }
     ensures bytes { take result to.new ≡ take at to.old ++ 32 ∷ decimal k }

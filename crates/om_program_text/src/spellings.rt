@@ -6,7 +6,7 @@ ghost use Rattle.om_program_text.specs.Spelt.{AreSpelt};
 /// How many numbers are spelt at most.
 pub(crate) const MOST_SPELT: usize = 8192;
 
-/// The decimal of a number behind a space, in the first `len` bytes.
+/// The number of a place, which counts from 0, behind a space, in the first `len` bytes.
 #[derive(Clone, Copy)]
 pub(crate) struct Spelling {
     pub(crate) bytes: [u8; 8],
@@ -19,7 +19,7 @@ pub(crate) const BLANK: Spelling = Spelling {
     len: 0,
 };
 
-/// Spells the numbers below `count`.
+/// Spells the numbers of the first `count` places.
 pub(crate) fn spell(numbers: &mut [Spelling], count: usize)
     requires few { count ≤ MOST_SPELT }
     requires within { count ≤ length numbers.old }
@@ -27,12 +27,12 @@ pub(crate) fn spell(numbers: &mut [Spelling], count: usize)
     ensures same { length numbers.new ≡ length numbers.old }
 {
     for k in 0..count {
-        numbers[k] = spelling_of(k as u64);
+        numbers[k] = spelling_of(k as u64 + 1);
     }
 }
 
 fn spelling_of(k: u64) -> Spelling
-    requires { k < MOST_SPELT }
+    requires { k ≤ MOST_SPELT }
     ensures text { take result.len result.bytes ≡ 32 ∷ decimal k }
     ensures short { result.len ≤ 8 }
 {

@@ -76,14 +76,14 @@ fn write_process<W: Sink>(code: &Code, to: &mut W, line: &mut Line) -> Result<()
     write_rows(&DenLines { particles }, &code.dens, to, line)
 }
 
-// How many numbers the instructions name, counted from 0, but for those of vertices.
+// How many places the instructions name, but for those of vertices.
 fn numbers_in(code: &Code) -> usize {
     let slots = code.slots as usize;
     let flows = code.flows.len();
     if slots < flows { flows } else { slots }
 }
 
-// Writes the lines of the instructions and the last one through a block. The first numbers are spelt once for all lines.
+// Writes the lines of the instructions and the last one through a block. The numbers of the first places are spelt once for all lines.
 fn write_instrs<W: Sink>(
     version: u8,
     instrs: &[Instr],
@@ -94,7 +94,7 @@ fn write_instrs<W: Sink>(
     ensures { Writes (outlet (W.written to.old) (W.faults to.old) block.old) (outlet (W.written to.new) (W.faults to.new) block.new) (all_of (instr_parts version instrs.now)) result }
 {
     let count = if numbers < MOST_SPELT {
-        numbers + 1
+        numbers
     } else {
         MOST_SPELT
     };

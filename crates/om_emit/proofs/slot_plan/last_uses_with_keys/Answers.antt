@@ -1,5 +1,4 @@
-use Rattle.std.proofs.Common.{◌+◌, ◌∙◌, length, ap, arith}
-use Rattle.om_emit.specs.Planning.{mark_each}
+use Rattle.std.proofs.Common.{◌+◌, ◌∙◌, length, arith}
 use Rattle.om_emit.proofs.PlansMade.{keys_none, keys_more}
 use Rattle.om_emit.proofs.slot_plan.last_uses_with_keys.Goals as goal
 
@@ -11,7 +10,6 @@ loop-i-init c = record {
 
 pub loop-i-preserved : goal.loop-i-preserved
 loop-i-preserved c = record {
-  last = keys_more c.args.registers c.args.instrs.now c.args.keys.now c.loop-i.i (length c.args.instrs.now + c.loop-i.i) c.index-keys-i.result c.loop-i.last.items c.mark_each.new.last.items (omega arith) c.index-keys-i.is (omega arith) c.loop-i.invariant.last
-      (c.mark_each.ensures.marked ∙ ap (mark_each (length c.args.instrs.now + c.loop-i.i) c.loop-i.last.items) c.nodes_of.ensures);
-  length = c.mark_each.ensures.length ∙ c.loop-i.invariant.length;
+  last = keys_more c.args.registers c.args.instrs.now c.args.keys.now c.loop-i.i (length c.args.instrs.now + c.loop-i.i) c.index-keys-i.result c.loop-i.last.items c.mark_branches.new.last.items (omega arith) c.index-keys-i.is (omega arith) c.loop-i.invariant.last c.mark_branches.ensures.marked;
+  length = c.mark_branches.ensures.length ∙ c.loop-i.invariant.length;
 }

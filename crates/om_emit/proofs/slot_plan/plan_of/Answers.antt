@@ -1,6 +1,7 @@
-use Rattle.std.proofs.Common.{◌≡◌, ℕ, length, vec_len, arith, rules, ap, ap₂, ◌∙◌, replicate, Option, None, List}
+use Rattle.std.proofs.Common.{◌≡◌, ℕ, map, length, vec_len, arith, rules, ap, ap₂, ◌∙◌, replicate, Option, None, List}
 use Rattle.std.proofs.lemmas.Grind.{common_steps}
 use Rattle.om_code.specs.Ops.{lines_of_code}
+use Rattle.om_code.specs.SlotPlans.{slot_or_0}
 use Rattle.om_emit.specs.Planning.{Planning, planning_of, no_slots, planned}
 use Rattle.om_emit.proofs.PlanLoop.{operands_small, planned_more, planned_none}
 use Rattle.om_emit.proofs.slot_plan.plan_of.Goals as goal
@@ -38,7 +39,7 @@ ended : (last : List ℕ) (lines : List (List ℕ)) (none p : Planning) (i n : �
 ended last lines none p i n e l = e ∙ ap (planned last lines none) l
 
 pub returns-clause-slots : goal.returns-clause-slots
-returns-clause-slots c = ap (λ (p : Planning). p.slots) (ended c.args.last_uses.now (lines_of_code c.args.instrs.now) (no_slots (length c.args.last_uses.now)) (planning_of c.loop-i.planner) c.loop-i.i (length c.args.instrs.now) c.loop-i.invariant.planned (omega arith))
+returns-clause-slots c = c.in_ok-slots.ensures.slots ∙ ap (map slot_or_0) (c.as_slice.ensures.value ∙ ap (λ (p : Planning). p.slots) (ended c.args.last_uses.now (lines_of_code c.args.instrs.now) (no_slots (length c.args.last_uses.now)) (planning_of c.loop-i.planner) c.loop-i.i (length c.args.instrs.now) c.loop-i.invariant.planned (omega arith)))
 
 pub returns-clause-count : goal.returns-clause-count
 returns-clause-count c = ap (λ (p : Planning). p.count) (ended c.args.last_uses.now (lines_of_code c.args.instrs.now) (no_slots (length c.args.last_uses.now)) (planning_of c.loop-i.planner) c.loop-i.i (length c.args.instrs.now) c.loop-i.invariant.planned (omega arith))

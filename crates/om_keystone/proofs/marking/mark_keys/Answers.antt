@@ -1,5 +1,5 @@
-use Rattle.std.proofs.Common.{◌≡◌, ◌∙◌, map, refl, ap, arith}
-use Rattle.om_keystone.specs.Pruning.{mark_keys, mark_all}
+use Rattle.std.proofs.Common.{map, refl, arith}
+use Rattle.om_keystone.specs.Pruning.{mark_keys}
 use Rattle.om_graph.specs.Possible.{unsigned_key}
 use Rattle.om_keystone.proofs.Steps.{mark_keys_step, mark_keys_end}
 use Rattle.om_keystone.proofs.marking.mark_keys.Goals as goal
@@ -9,8 +9,7 @@ loop-key-init c = refl
 
 pub loop-key-preserved : goal.loop-key-preserved
 loop-key-preserved c =
-    let marked : c.mark_all.new.marks ≡ mark_all c.loop-key.marks (unsigned_key c.key-item.result).branches = c.mark_all.ensures ∙ ap (mark_all c.loop-key.marks) c.nodes_of.ensures in
-    mark_keys_step (mark_keys c.args.marks.now (map unsigned_key c.args.keys.now)) c.loop-key.marks c.mark_all.new.marks c.args.keys.now c.key-item.result c.loop-key.key-index (omega arith) c.key-item.is c.loop-key.invariant marked
+    mark_keys_step (mark_keys c.args.marks.now (map unsigned_key c.args.keys.now)) c.loop-key.marks c.mark_branches.new.marks c.args.keys.now c.key-item.result c.loop-key.key-index (omega arith) c.key-item.is c.loop-key.invariant c.mark_branches.ensures
 
 pub returns : goal.returns
 returns c = mark_keys_end (mark_keys c.args.marks.now (map unsigned_key c.args.keys.now)) c.loop-key.marks c.args.keys.now c.loop-key.key-index (omega arith) c.loop-key.invariant

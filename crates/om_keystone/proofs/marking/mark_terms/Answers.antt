@@ -15,7 +15,7 @@ loop-i-preserved-then-has_mark c =
     let k : c.loop-i.i ≡ (c.loop-i.i - 1) + 1 = omega arith in
     let here : c.loop-i.marks ≡ mark_terms c.args.marks.now (map unsigned (drop ((c.loop-i.i - 1) + 1) c.args.terms.now)) =
     c.loop-i.invariant ∙ ap (λ n. mark_terms c.args.marks.now (map unsigned (drop n c.args.terms.now))) k in
-    mark_terms_more c.args.marks.now c.loop-i.marks c.mark_all.new.marks c.args.terms.now c.index-terms-i.result (c.loop-i.i - 1) (omega arith) c.index-terms-i.is here (search rules) (search rules)
+    mark_terms_more c.args.marks.now c.loop-i.marks c.mark_branches.new.marks c.args.terms.now c.index-terms-i.result (c.loop-i.i - 1) (omega arith) c.index-terms-i.is here (search rules) (search rules)
 
 pub loop-i-preserved : goal.loop-i-preserved
 loop-i-preserved c =
