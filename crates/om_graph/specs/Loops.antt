@@ -13,7 +13,7 @@ use Rattle.om_graph.specs.declared.fields.Meeting.{Meeting}
 use Rattle.om_graph.specs.declared.chosen.Chosen.{Chosen}
 use Rattle.om_graph.specs.declared.closings.Closed.{Closed}
 use Rattle.om_graph.specs.declared.fusions.Fused.{Fused}
-use Rattle.om_graph.specs.declared.key_terms.Row.{Row}
+use Rattle.om_graph.specs.declared.closed_rows.Row.{Row}
 use Rattle.om_graph.specs.ColoursFit.{CanJoin}
 use Rattle.om_graph.specs.Graph.{Found, Numbered, at_numbers}
 use Rattle.om_graph.specs.Tuples.{met_from, tuples}

@@ -2,7 +2,7 @@ use Rattle.std.proofs.Common.{List, Option, ◌≤◌, ◌+◌, ◌<◌, ◌++�
 use Rattle.om_colour.specs.Partials.{Fits, closed, no_hole}
 use Rattle.om_colour.specs.declared.Flow.{Flow}
 use Rattle.om_colour.specs.declared.Choice.{Choice}
-use Rattle.om_graph.specs.Loops.{Signed, chosen_nodes, counts, closed_at, closed_seen}
+use Rattle.om_graph.specs.Loops.{Signed, chosen_nodes, counts, closed_at}
 use Rattle.om_graph.specs.declared.Key.{Key}
 use Rattle.om_graph.specs.Fillings.{key_at}
 use Rattle.om_graph.specs.Reactions.{reaction_in}
@@ -15,7 +15,7 @@ use Rattle.om_graph.proofs.closings.add_choices.Goals as goal
 
 pub loop-choice-init : goal.loop-choice-init
 loop-choice-init c = record {
-  all = none_yet (λ k. closed_at (reaction_in c.args.reaction.now) (chosen_nodes c.args.chosen) c.args.keys.now c.args.meeting.vertex k ∷ []) (map closed_seen c.args.found.now.items);
+  all = none_yet (λ k. closed_at (reaction_in c.args.reaction.now) (chosen_nodes c.args.chosen) c.args.keys.now c.args.meeting.vertex k ∷ []) c.args.found.now;
   fits = λ h. h;
 }
 
@@ -30,8 +30,8 @@ pub returns-in-Err : goal.returns-in-Err
 returns-in-Err c = record {
   added = λ e.
       let n = c.choices-choice-end.result in
-      let l = stops (λ k. closed_at (reaction_in c.args.reaction.now) (chosen_nodes c.args.chosen) c.args.keys.now c.args.meeting.vertex k ∷ []) c.loop-choice.choice n (map closed_seen c.args.found.now.items) (map closed_seen c.loop-choice.found.items) c.args.limit c.loop-choice-test.true c.loop-choice.invariant.all (c.in-Err.ensures.added e) in
-      subst (λ k. c.args.limit < length (map closed_seen c.args.found.now.items) + length (flat_map (λ k. closed_at (reaction_in c.args.reaction.now) (chosen_nodes c.args.chosen) c.args.keys.now c.args.meeting.vertex k ∷ []) (counts k))) c.choices-choice-end.ensures l;
+      let l = stops (λ k. closed_at (reaction_in c.args.reaction.now) (chosen_nodes c.args.chosen) c.args.keys.now c.args.meeting.vertex k ∷ []) c.loop-choice.choice n c.args.found.now c.loop-choice.found c.args.limit c.loop-choice-test.true c.loop-choice.invariant.all (c.in-Err.ensures.added e) in
+      subst (λ k. c.args.limit < length c.args.found.now + length (flat_map (λ k. closed_at (reaction_in c.args.reaction.now) (chosen_nodes c.args.chosen) c.args.keys.now c.args.meeting.vertex k ∷ []) (counts k))) c.choices-choice-end.ensures l;
 }
 
 pub loop-choice-preserved : goal.loop-choice-preserved
@@ -43,7 +43,7 @@ loop-choice-preserved c =
     (subst (λ (s : List (Option Key)). length s ≤ 4) (ap (map (key_at c.args.keys.now)) c.requires.filled ∙ closed_filled (reaction_in c.args.reaction.now) c.args.meeting c.args.keys.now) c.is_minus-minus.ensures.few) c.fermions.ensures c.is_minus-minus.ensures.sign in
     let x = found_is (reaction_in c.args.reaction.now) c.args.meeting.vertex c.loop-choice.choice (chosen_nodes c.args.chosen) c.args.keys.now _ _ flow sign in
     record {
-      all = more (λ k. closed_at (reaction_in c.args.reaction.now) (chosen_nodes c.args.chosen) c.args.keys.now c.args.meeting.vertex k ∷ []) c.loop-choice.choice (map closed_seen c.args.found.now.items) (map closed_seen c.loop-choice.found.items) (map closed_seen c.add.new.found.items) c.loop-choice.invariant.all
-          (c.in_default.ensures.added.0 ∙ ap (λ (y : Signed Flow). map closed_seen c.loop-choice.found.items ++ y ∷ []) x);
+      all = more (λ k. closed_at (reaction_in c.args.reaction.now) (chosen_nodes c.args.chosen) c.args.keys.now c.args.meeting.vertex k ∷ []) c.loop-choice.choice c.args.found.now c.loop-choice.found c.push.new.self c.loop-choice.invariant.all
+          (c.in_default.ensures.added.0 ∙ ap (λ (y : Signed Flow). c.loop-choice.found ++ y ∷ []) x);
       fits = λ h. c.in_default.ensures.added.1 (c.loop-choice.invariant.fits h);
     }

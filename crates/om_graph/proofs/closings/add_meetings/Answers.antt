@@ -1,9 +1,9 @@
-use Rattle.std.proofs.Common.{◌≡◌, ◌+◌, ◌<◌, ◌++◌, List, map, flat_map, take, length, true, refl, ap, sym, subst, ◌∙◌, arith}
+use Rattle.std.proofs.Common.{◌≡◌, ◌+◌, ◌<◌, ◌++◌, List, flat_map, take, length, true, refl, ap, sym, subst, ◌∙◌, arith}
 use Rattle.om_colour.specs.declared.Flow.{Flow}
 use Rattle.om_ring.specs.Members.{In}
 use Rattle.om_graph.specs.declared.fillings.Filling.{Filling}
 use Rattle.om_graph.specs.Fillings.{filled_at, fillings_at, sides_of}
-use Rattle.om_graph.specs.Loops.{Signed, chosen_nodes, closed_by, closed_seen, meetings_of}
+use Rattle.om_graph.specs.Loops.{Signed, chosen_nodes, closed_by, meetings_of}
 use Rattle.om_graph.specs.Reactions.{reaction_in}
 use Rattle.om_graph.specs.Vertices.{fields_of}
 use Rattle.om_graph.specs.Words.{lines_of_key}
@@ -39,11 +39,11 @@ pub returns-in-Err-add_choices-clause-added : goal.returns-in-Err-add_choices-cl
 returns-in-Err-add_choices-clause-added c = λ t.
     let e = c.all-fillings.ensures ∙ c.in_default.ensures.found ∙ ap (λ b. fillings_at (reaction_in c.args.reaction.now) b (sides_of (take c.args.chosen.count c.keys_of-all.result))) c.requires.cached.meetings.kind in
     let d = c.filling-item.result in
-    let l = stops_at (λ (x : Filling). closed_by (reaction_in c.args.reaction.now) (chosen_nodes c.args.chosen) (take c.args.chosen.count c.keys_of-all.result) x.meeting) c.all-fillings.result.now c.loop-filling.filling-index d (map closed_seen c.args.found.now.items) (map closed_seen c.loop-filling.found.items) c.args.limit c.loop-filling-test.true c.loop-filling.invariant.all (subst (λ (x : Filling). c.args.limit < length (map closed_seen c.loop-filling.found.items) + length (closed_by (reaction_in c.args.reaction.now) (chosen_nodes c.args.chosen) (take c.args.chosen.count c.keys_of-all.result) x.meeting)) c.filling-item.is (c.in-Err-add_choices.ensures.added t)) in
-    subst (λ (l : List (Signed Flow)). c.args.limit < length (map closed_seen c.args.found.now.items) + length l) (over_meetings (reaction_in c.args.reaction.now) true (closed_by (reaction_in c.args.reaction.now) (chosen_nodes c.args.chosen) (take c.args.chosen.count c.keys_of-all.result)) (take c.args.chosen.count c.keys_of-all.result) c.all-fillings.result.now e ∙ sym (met_closed_is (reaction_in c.args.reaction.now) c.args.nodes.now (chosen_nodes c.args.chosen) (take c.args.chosen.count c.keys_of-all.result) (meetings_of (reaction_in c.args.reaction.now) true (fields_of (take c.args.chosen.count c.keys_of-all.result))) c.keys_of-all.ensures refl)) l
+    let l = stops_at (λ (x : Filling). closed_by (reaction_in c.args.reaction.now) (chosen_nodes c.args.chosen) (take c.args.chosen.count c.keys_of-all.result) x.meeting) c.all-fillings.result.now c.loop-filling.filling-index d c.args.found.now c.loop-filling.found c.args.limit c.loop-filling-test.true c.loop-filling.invariant.all (subst (λ (x : Filling). c.args.limit < length c.loop-filling.found + length (closed_by (reaction_in c.args.reaction.now) (chosen_nodes c.args.chosen) (take c.args.chosen.count c.keys_of-all.result) x.meeting)) c.filling-item.is (c.in-Err-add_choices.ensures.added t)) in
+    subst (λ (l : List (Signed Flow)). c.args.limit < length c.args.found.now + length l) (over_meetings (reaction_in c.args.reaction.now) true (closed_by (reaction_in c.args.reaction.now) (chosen_nodes c.args.chosen) (take c.args.chosen.count c.keys_of-all.result)) (take c.args.chosen.count c.keys_of-all.result) c.all-fillings.result.now e ∙ sym (met_closed_is (reaction_in c.args.reaction.now) c.args.nodes.now (chosen_nodes c.args.chosen) (take c.args.chosen.count c.keys_of-all.result) (meetings_of (reaction_in c.args.reaction.now) true (fields_of (take c.args.chosen.count c.keys_of-all.result))) c.keys_of-all.ensures refl)) l
 
 pub returns-clause-added : goal.returns-clause-added
 returns-clause-added c =
     let e = c.all-fillings.ensures ∙ c.in_default.ensures.found ∙ ap (λ b. fillings_at (reaction_in c.args.reaction.now) b (sides_of (take c.args.chosen.count c.keys_of-all.result))) c.requires.cached.meetings.kind in
     let w = take_whole c.all-fillings.result.now c.loop-filling.filling-index (omega (arith, c.loop-filling-test.false)) in
-    (c.loop-filling.invariant.all ∙ ap (λ (l : List (Signed Flow)). map closed_seen c.args.found.now.items ++ l) (ap (flat_map (λ (x : Filling). closed_by (reaction_in c.args.reaction.now) (chosen_nodes c.args.chosen) (take c.args.chosen.count c.keys_of-all.result) x.meeting)) w ∙ over_meetings (reaction_in c.args.reaction.now) true (closed_by (reaction_in c.args.reaction.now) (chosen_nodes c.args.chosen) (take c.args.chosen.count c.keys_of-all.result)) (take c.args.chosen.count c.keys_of-all.result) c.all-fillings.result.now e ∙ sym (met_closed_is (reaction_in c.args.reaction.now) c.args.nodes.now (chosen_nodes c.args.chosen) (take c.args.chosen.count c.keys_of-all.result) (meetings_of (reaction_in c.args.reaction.now) true (fields_of (take c.args.chosen.count c.keys_of-all.result))) c.keys_of-all.ensures refl)), c.loop-filling.invariant.fits)
+    (c.loop-filling.invariant.all ∙ ap (λ (l : List (Signed Flow)). c.args.found.now ++ l) (ap (flat_map (λ (x : Filling). closed_by (reaction_in c.args.reaction.now) (chosen_nodes c.args.chosen) (take c.args.chosen.count c.keys_of-all.result) x.meeting)) w ∙ over_meetings (reaction_in c.args.reaction.now) true (closed_by (reaction_in c.args.reaction.now) (chosen_nodes c.args.chosen) (take c.args.chosen.count c.keys_of-all.result)) (take c.args.chosen.count c.keys_of-all.result) c.all-fillings.result.now e ∙ sym (met_closed_is (reaction_in c.args.reaction.now) c.args.nodes.now (chosen_nodes c.args.chosen) (take c.args.chosen.count c.keys_of-all.result) (meetings_of (reaction_in c.args.reaction.now) true (fields_of (take c.args.chosen.count c.keys_of-all.result))) c.keys_of-all.ensures refl)), c.loop-filling.invariant.fits)
