@@ -11,9 +11,9 @@ ghost use Rattle.om_graph.specs.Vertices.{is_outward as is_outward_of, keeps_edg
 use crate::BuildFault;
 use crate::chosen::Chosen;
 use crate::closed_rows::ClosedRows;
-use crate::closings::add_tuples;
 use crate::fillings::Fillings;
 use crate::linked::Linked;
+use crate::meets::add_tuples;
 use crate::reaction::{Reaction, is_outward};
 use crate::valence::has_valence;
 use om_legs::{FourParts, LegSet, ThreeParts, partitions3, partitions4};
@@ -91,7 +91,7 @@ fn add_fours(
 }
 
 // What the nodes of some parts close to, where each lies away from the keystone and the named edges stay whole.
-#[tactic(auto, unfolding(crate::specs::Loops::met_partition))]
+#[tactic(auto, unfolding(crate::specs::Loops::met_partition, crate::specs::Loops::meet_closed))]
 fn add_partition(
     alloc: Global,
     reaction: &Reaction<'_>,
