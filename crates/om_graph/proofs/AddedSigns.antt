@@ -6,15 +6,13 @@ use Rattle.om_ring.specs.Members.{In}
 use Rattle.om_graph.specs.declared.Key.{Key}
 use Rattle.om_graph.specs.declared.KeyTerm.{KeyTerm}
 use Rattle.om_graph.specs.declared.Term.{Term}
-use Rattle.om_graph.specs.declared.chosen.Chosen.{Chosen}
-use Rattle.om_graph.specs.declared.closings.Closed.{Closed}
-use Rattle.om_graph.specs.declared.key_terms.Row.{Row}
+use Rattle.om_graph.specs.declared.closed_rows.Row.{Row}
 use Rattle.om_graph.specs.declared.fusions.Fused.{Fused}
 use Rattle.om_graph.specs.Graph.{Found, at_numbers}
 use Rattle.om_graph.specs.Loops.{chosen_nodes}
 use Rattle.om_graph.specs.Possible.{key_lt, nodes_at, state_of}
 use Rattle.om_graph.specs.Search.{State, add, interned, place}
-use Rattle.om_graph.specs.SetWalk.{HasClosedSign, HasFoundSign, HasKeySign, HasRowSign, HasTermSign, HaveSigns, KeysHaveSigns, RowsHaveSigns}
+use Rattle.om_graph.specs.SetWalk.{HasFoundSign, HasKeySign, HasRowSign, HasTermSign, HaveSigns, KeysHaveSigns}
 use Rattle.om_graph.specs.Vertices.{Reaction, closed_minus, fused_minus}
 use Rattle.om_graph.proofs.Adding.{in_interned, interned_grows}
 use Rattle.om_ring.proofs.Members.{in_either}
@@ -57,19 +55,6 @@ module _ (r : Reaction) where
       by : In y ts ⊎ In y (t ∷ []) → HasTermSign r ms y
       by (inl j) = subst (λ (ks : List Key). HasTermSign r ks y) (sym grown) (longer_sign ns more y (old y j))
       by (inr (inl q)) = subst (HasTermSign r ms) (sym q) here
-      by (inr (inr f)) = absurd f
-
-  -- one row more
-  pub row_signs : (ns : List Key) (ys zs : List Row) (t : Row) (x : Closed) → zs ≡ ys ++ t ∷ [] → t.branches ≡ x.branches → t.vertex ≡ x.vertex → t.minus ≡ x.minus
-      → RowsHaveSigns r ns ys → HasClosedSign r ns x → RowsHaveSigns r ns zs
-  row_signs ns ys zs t x g b v m old new y i = by (in_either y ys (t ∷ []) (subst (In y) g i))
-    where
-      here : HasRowSign r ns t
-      here = (new.0, ap (λ (a : Chosen). at_numbers ns (chosen_nodes a)) b ∙ new.1, m ∙ new.2 ∙ ap (λ w. closed_minus r w new.0) (sym v))
-
-      by : In y ys ⊎ In y (t ∷ []) → HasRowSign r ns y
-      by (inl j) = old y j
-      by (inr (inl q)) = subst (HasRowSign r ns) (sym q) here
       by (inr (inr f)) = absurd f
 
   -- one keystone term more

@@ -5,9 +5,8 @@ use Rattle.om_graph.specs.declared.Key.{Key}
 use Rattle.om_graph.specs.declared.nodes.Range.{Range}
 use Rattle.om_graph.specs.Caches.{AllBelow, in_range, counts_from}
 use Rattle.om_graph.specs.Graph.{at_numbers}
-use Rattle.om_graph.specs.Loops.{AllFrom, CanMeet, CanCloseAt}
+use Rattle.om_graph.specs.Loops.{AllFrom}
 use Rattle.om_graph.specs.Tuples.{tuples, numbers_over, met, met_from}
-use Rattle.om_graph.specs.Vertices.{Reaction}
 use Rattle.om_ring.proofs.Members.{in_map, in_flat_map}
 use Rattle.om_graph.proofs.Steps.{in_from}
 
@@ -16,37 +15,18 @@ below_more n [] k h l = (l, tt)
 below_more n (x ∷ ks) k h l = (h.0, below_more n ks k h.1 l)
 
 -- what holds of the nodes that may be chosen, with nothing more to choose and with one node more
-abbrev NoneMore : (List Key → Type 0) → Type 0
-NoneMore May = (ns : List Key) (is : List ℕ) → AllFrom May ns is [] → (ks : List Key) → at_numbers ns is ≡ Some ks → May ks
+pub none_more : (May : List Key → Type 0) (ns : List Key) (is : List ℕ) → AllFrom May ns is [] → (ks : List Key) → at_numbers ns is ≡ Some ks → May ks
+unfolding tuples
+none_more May ns is h ks e = h [] ks (inl refl) (ap (at_numbers ns) (append-nil is) ∙ e)
 
-abbrev OneMore : (List Key → Type 0) → Type 0
-OneMore May = (ns : List Key) (is js : List ℕ) (part : ℕ) (more : List ℕ) (x : Range) (n : ℕ) → AllFrom May ns is (part ∷ more) → in_range x ≡ numbers_over (λ (k : Key). k.legs) ns part → x.first ≤ n → n < x.end → js ≡ is ++ n ∷ [] → AllFrom May ns js more
-
-module _ (May : List Key → Type 0) where
-  nothing_more : NoneMore May
-  unfolding tuples
-  nothing_more ns is h ks e = h [] ks (inl refl) (ap (at_numbers ns) (append-nil is) ∙ e)
-
-  one_node_more : OneMore May
-  unfolding tuples
-  one_node_more ns is js part more x n h e l g q ts ks i a =
-      h (n ∷ ts) ks
-      (in_flat_map (λ m. map (λ us. m ∷ us) (tuples (λ (k : Key). k.legs) ns more)) n (n ∷ ts) (numbers_over (λ (k : Key). k.legs) ns part)
-      (subst (In n) e (in_from x.first (x.end - x.first) n l (omega arith)))
-      (in_map (λ us. n ∷ us) ts (tuples (λ (k : Key). k.legs) ns more) i))
-      (ap (at_numbers ns) (sym (append_assoc is (n ∷ []) ts)) ∙ ap (λ (us : List ℕ). at_numbers ns (us ++ ts)) (sym q) ∙ a)
-
-pub none_more : (r : Reaction) → NoneMore (CanMeet r)
-none_more r = nothing_more (CanMeet r)
-
-pub one_more : (r : Reaction) → OneMore (CanMeet r)
-one_more r = one_node_more (CanMeet r)
-
-pub none_more_closes : (r : Reaction) → NoneMore (CanCloseAt r)
-none_more_closes r = nothing_more (CanCloseAt r)
-
-pub one_more_closes : (r : Reaction) → OneMore (CanCloseAt r)
-one_more_closes r = one_node_more (CanCloseAt r)
+pub one_more : (May : List Key → Type 0) (ns : List Key) (is js : List ℕ) (part : ℕ) (more : List ℕ) (x : Range) (n : ℕ) → AllFrom May ns is (part ∷ more) → in_range x ≡ numbers_over (λ (k : Key). k.legs) ns part → x.first ≤ n → n < x.end → js ≡ is ++ n ∷ [] → AllFrom May ns js more
+unfolding tuples
+one_more May ns is js part more x n h e l g q ts ks i a =
+    h (n ∷ ts) ks
+    (in_flat_map (λ m. map (λ us. m ∷ us) (tuples (λ (k : Key). k.legs) ns more)) n (n ∷ ts) (numbers_over (λ (k : Key). k.legs) ns part)
+    (subst (In n) e (in_from x.first (x.end - x.first) n l (omega arith)))
+    (in_map (λ us. n ∷ us) ts (tuples (λ (k : Key). k.legs) ns more) i))
+    (ap (at_numbers ns) (sym (append_assoc is (n ∷ []) ts)) ∙ ap (λ (us : List ℕ). at_numbers ns (us ++ ts)) (sym q) ∙ a)
 
 pub empty_is : {A : Type 0} (xs : List A) → length xs < 1 → xs ≡ []
 empty_is [] l = refl

@@ -9,12 +9,12 @@ use Rattle.std.specs.Cmp.Lexicographic.{slice_cmp}
 use Rattle.om_model.specs.Order.{numbers_lt}
 use Rattle.om_colour.specs.contracts.FlowOrd.TheImpl as flow
 use Rattle.om_colour.specs.declared.Flow.{Flow}
-use Rattle.om_graph.specs.contracts.key_terms.RowOrd.TheImpl as row
+use Rattle.om_graph.specs.contracts.closed_rows.RowOrd.TheImpl as row
 use Rattle.om_graph.specs.contracts.fusions.FusedOrd.TheImpl as fused
 use Rattle.om_graph.specs.declared.Key.{Key}
 use Rattle.om_graph.specs.declared.chosen.Chosen.{Chosen}
 use Rattle.om_graph.specs.declared.fusions.Fused.{Fused}
-use Rattle.om_graph.specs.declared.key_terms.Row.{Row}
+use Rattle.om_graph.specs.declared.closed_rows.Row.{Row}
 use Rattle.om_graph.specs.Graph.{found_lt, numbered_lt}
 use Rattle.om_graph.specs.Loops.{chosen_nodes, four_nodes, fused_found, row_seen}
 use Rattle.om_graph.specs.Possible.{flow_lt, key_lt}
@@ -26,6 +26,11 @@ is_less : (o : Ordering) → is_lt o ≡ true → o ≡ Less
 is_less Less e = refl
 is_less Equal e = absurd (true≢false (sym e))
 is_less Greater e = absurd (true≢false (sym e))
+
+pub no_less : (o : Ordering) → (o ≡ Less → ⊥) → is_lt o ≡ false
+no_less Less h = absurd (h refl)
+no_less Equal h = refl
+no_less Greater h = refl
 
 pub lists_agree : (xs ys : List ℕ) → is_lt (slice_cmp nat_cmp xs ys) ≡ numbers_lt xs ys
 unfolding numbers_lt

@@ -43,9 +43,12 @@ module _ (r : Reaction) (closing : Bool) where
   pub vertices_at : (a : Meetings) (place : ℕ) (met : List Meeting) (ks : List Key) → HasMeetings a place (meetings_of r closing (fields_of ks)) → HasMeetings a place met → AreVertices r met
   vertices_at a place met ks h g m i = meeting_vertex r closing (fields_of ks) m (subst (In m) (same_meetings a place met (meetings_of r closing (fields_of ks)) g h) i)
 
+  abbrev pub IsFilling : List Key → Filling → Type 0
+  IsFilling ks x = In x.meeting (meetings_of r closing (fields_of ks)) × (x.parts ≡ filled_at r closing x.meeting (sides_of ks))
+
   -- a filling that was found is that of a vertex at which the nodes meet
   pub is_filling : (ks : List Key) (fs : List Filling) (i : ℕ) (d : Filling) → fs ≡ fillings_at r closing (sides_of ks) → i < length fs
-      → In (get_or fs i d).meeting (meetings_of r closing (fields_of ks)) × ((get_or fs i d).parts ≡ filled_at r closing (get_or fs i d).meeting (sides_of ks))
+      → IsFilling ks (get_or fs i d)
   unfolding fillings_at
   is_filling ks fs i d e l =
       let x = get_or fs i d in

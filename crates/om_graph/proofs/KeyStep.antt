@@ -15,9 +15,8 @@ use Rattle.om_model.specs.Diagram.{all_in}
 use Rattle.om_model.specs.Order.{rising_of}
 use Rattle.om_graph.specs.declared.Key.{Key}
 use Rattle.om_graph.specs.declared.KeyTerm.{KeyTerm}
-use Rattle.om_graph.specs.declared.closings.Closed.{Closed}
 use Rattle.om_graph.specs.Graph.{Found, found_lt, at_numbers}
-use Rattle.om_graph.specs.Loops.{CanCloseOver, Signed, chosen_nodes, closed_at, closed_by, closed_found, closed_seen, counts, meet_closed, meetings_of, met_partition}
+use Rattle.om_graph.specs.Loops.{CanCloseOver, Signed, closed_at, closed_by, counts, meet_closed, meetings_of, met_partition}
 use Rattle.om_graph.specs.Possible.{flow_lt, unsigned_key}
 use Rattle.om_graph.specs.Search.{flows_of, number_in, numbered}
 use Rattle.om_graph.specs.SetSearch.{closings_of, found_closed, found_in, keystone_splits}
@@ -111,42 +110,38 @@ module _ (r : Reaction) (ns : List Key) (can : CanCloseAll r ns) where
         two a b e (inl q) = omega (arith, e, q)
         two a b e (inr q) = omega (arith, e, q)
 
-    pub close_large : (old : List Closed) (limit : ℕ) → old ≡ [] → limit < length (map closed_seen old) + length signed → limit < length (closings_of r ns)
-    close_large old limit none l = let c = signed_length in let d = ap (λ (xs : List Closed). length (map closed_seen xs)) none in omega (arith, c, d, l)
+    pub close_large : (old : List (Signed Flow)) (limit : ℕ) → old ≡ [] → limit < length old + length signed → limit < length (closings_of r ns)
+    close_large old limit none l = let c = signed_length in let d = ap length none in omega (arith, c, d, l)
 
-    module _ (old unsorted : List Closed) (none : old ≡ []) (are : map closed_seen unsorted ≡ map closed_seen old ++ signed) where
-      seen_are : map closed_seen unsorted ≡ signed
-      seen_are = are ∙ ap (λ (xs : List Closed). map closed_seen xs ++ signed) none
+    module _ (old found : List (Signed Flow)) (none : old ≡ []) (are : found ≡ old ++ signed) where
+      found_are : found ≡ signed
+      found_are = are ∙ ap (λ (xs : List (Signed Flow)). xs ++ signed) none
 
-      known_found : (y : Closed) → In y unsorted → IsKnown (closed_seen y)
-      known_found y i = known (closed_seen y) (subst (In (closed_seen y)) seen_are (in_map closed_seen y unsorted i))
+      known_found : (y : Signed Flow) → In y found → IsKnown y
+      known_found y i = known y (subst (In y) found_are i)
 
       slot_count : ℕ → ℕ
       slot_count v = length (r.scattering.theory.slots v)
 
-      pub all_counted : (counts : ℕ → ℕ) × All (λ (y : Closed). length (chosen_nodes y.branches) ≡ counts y.vertex) unsorted
+      pub all_counted : (counts : ℕ → ℕ) × All (λ (y : Signed Flow). length y.found.branches ≡ counts y.found.vertex) found
       unfolding slot_count
-      all_counted = (slot_count, all_of_members (λ (y : Closed). length (chosen_nodes y.branches) ≡ slot_count y.vertex) unsorted (λ y i. (known_found y i).counted))
+      all_counted = (slot_count, all_of_members (λ (y : Signed Flow). length y.found.branches ≡ slot_count y.found.vertex) found (λ y i. (known_found y i).counted))
 
-      found_list : map closed_found unsorted ≡ closings_of r ns
-      found_list = without unsorted ∙ ap found_in seen_are ∙ closed_is
-        where
-          without : (ys : List Closed) → map closed_found ys ≡ found_in (map closed_seen ys)
-          without [] = refl
-          without (y ∷ ys) = ap (λ zs. closed_found y ∷ zs) (without ys)
+      found_list : found_in found ≡ closings_of r ns
+      found_list = ap found_in found_are ∙ closed_is
 
-      pub closed_several : All (λ (y : Closed). 2 ≤ length (chosen_nodes y.branches)) unsorted
-      closed_several = all_of_members (λ (y : Closed). 2 ≤ length (chosen_nodes y.branches)) unsorted (λ y i. (known_found y i).several)
+      pub closed_several : All (λ (y : Signed Flow). 2 ≤ length y.found.branches) found
+      closed_several = all_of_members (λ (y : Signed Flow). 2 ≤ length y.found.branches) found (λ y i. (known_found y i).several)
 
-      pub closed_different : Different (map closed_found unsorted)
+      pub closed_different : Different (found_in found)
       closed_different = subst Different (sym found_list) (closings_once r can.reaction.fields ns)
 
-      closed_signs : All (HasClosedSign r ns) unsorted
-      closed_signs = all_of_members (HasClosedSign r ns) unsorted (λ y i. let k = known_found y i in (k.keys, k.are, k.sign))
+      closed_signs : All (HasClosedSign r ns) found
+      closed_signs = all_of_members (HasClosedSign r ns) found (λ y i. let k = known_found y i in (k.keys, k.are, k.sign))
 
       -- what numbering what closes leaves
-      pub closes : (limit : ℕ) → (length (map closed_seen old) ≤ limit → length (map closed_seen unsorted) ≤ limit) → (ys : List KeyTerm) (ws : List Flow) → ws ≡ rising_of flow_lt (map (λ (x : Found Flow). x.made) (map closed_found unsorted))
-          → map unsigned_key ys ≡ numbered flow_lt ws (map closed_found unsorted) → ((q : Reaction) (ms : List Key) → All (HasClosedSign q ms) unsorted → KeysHaveSigns q ms ys) → HasClosed r ns limit ys ws
+      pub closes : (limit : ℕ) → (length old ≤ limit → length found ≤ limit) → (ys : List KeyTerm) (ws : List Flow) → ws ≡ rising_of flow_lt (map (λ (x : Found Flow). x.made) (found_in found))
+          → map unsigned_key ys ≡ numbered flow_lt ws (found_in found) → ((q : Reaction) (ms : List Key) → All (HasClosedSign q ms) found → KeysHaveSigns q ms ys) → HasClosed r ns limit ys ws
       unfolding flows_of
       closes limit fits ys ws w k sg = record {
         flows = w ∙ ap (λ (xs : List (Found Flow)). rising_of flow_lt (map (λ (x : Found Flow). x.made) xs)) found_list;
@@ -154,11 +149,10 @@ module _ (r : Reaction) (ns : List Key) (can : CanCloseAll r ns) where
         few =
             let a = ap length k in
             let b = length-map ys unsigned_key in
-            let c = numbered-length (map closed_found unsorted) ws closed_different in
-            let d = length-map unsorted closed_seen in
-            let e = length-map unsorted closed_found in
-            let m = ap (λ (xs : List Closed). length (map closed_seen xs)) none in
+            let c = numbered-length (found_in found) ws closed_different in
+            let d = length-map found (λ (x : Signed Flow). x.found) in
+            let m = ap length none in
             let n = fits (omega (arith, m)) in
-            omega (arith, a, b, c, d, e, n);
+            omega (arith, a, b, c, d, n);
         signs = sg r ns closed_signs;
       }

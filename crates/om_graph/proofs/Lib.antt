@@ -41,7 +41,6 @@ pub mod FlowWords
 pub mod FoundMembers
 pub mod SplitMembers
 pub mod PartSizes
-pub mod Permuted
 pub mod SetOrder
 pub mod LegNodes
 pub mod FoundOrder
@@ -49,6 +48,10 @@ pub mod WalkSteps
 pub mod AddedSigns
 pub mod SplitLists
 pub mod SignedLists
+pub mod PlacedKeys
+pub mod ClosedRows
+pub mod KeyOrder
+pub mod KeysInOrder
 pub mod KeyRows
 pub mod SetStep
 pub mod KeyStep

@@ -5,6 +5,8 @@ pub mod Tuples
 pub mod Splits
 pub mod Vertices
 pub mod Reactions
+pub mod ClosedRows
+pub mod OrderedKeys
 pub mod Possible
 pub mod TreeKeys
 pub mod ColoursFit

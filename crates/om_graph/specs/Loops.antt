@@ -13,7 +13,7 @@ use Rattle.om_graph.specs.declared.fields.Meeting.{Meeting}
 use Rattle.om_graph.specs.declared.chosen.Chosen.{Chosen}
 use Rattle.om_graph.specs.declared.closings.Closed.{Closed}
 use Rattle.om_graph.specs.declared.fusions.Fused.{Fused}
-use Rattle.om_graph.specs.declared.key_terms.Row.{Row}
+use Rattle.om_graph.specs.declared.closed_rows.Row.{Row}
 use Rattle.om_graph.specs.ColoursFit.{CanJoin}
 use Rattle.om_graph.specs.Graph.{Found, Numbered, at_numbers}
 use Rattle.om_graph.specs.Tuples.{met_from, tuples}
@@ -76,9 +76,13 @@ fused_with r is ks v (Some f) = flat_map (λ c. fused_at r is ks f v c ∷ []) (
 abbrev pub fused_by : Reaction → List ℕ → List Key → Meeting → List (Signed Key)
 fused_by r is ks m = fused_with r is ks m.vertex m.up
 
--- what nodes with these numbers and keys fuse to
+-- what nodes with these numbers and keys make where they meet, by what they make at one vertex
+abbrev pub meet_by : {X : Type 0} → Reaction → Bool → (List ℕ → List Key → Meeting → List X) → List ℕ → List Key → List X
+meet_by r closing made is ks = flat_map (made is ks) (meetings_of r closing (fields_of ks))
+
+-- what they fuse to
 unfoldable pub meet_fused : Reaction → List ℕ → List Key → List (Signed Key)
-meet_fused r is ks = flat_map (fused_by r is ks) (meetings_of r false (fields_of ks))
+meet_fused r = meet_by r false (fused_by r)
 
 -- the same for what they close to
 unfoldable pub closed_at : Reaction → List ℕ → List Key → (v c : ℕ) → Signed Flow
@@ -88,7 +92,7 @@ abbrev pub closed_by : Reaction → List ℕ → List Key → Meeting → List (
 closed_by r is ks m = flat_map (λ c. closed_at r is ks m.vertex c ∷ []) (counts (r.scattering.theory.choices m.vertex))
 
 unfoldable pub meet_closed : Reaction → List ℕ → List Key → List (Signed Flow)
-meet_closed r is ks = flat_map (closed_by r is ks) (meetings_of r true (fields_of ks))
+meet_closed r = meet_by r true (closed_by r)
 
 -- what nodes make over some parts, which leave the rest, where the named edges stay whole
 unfoldable pub met_parts : {X : Type 0} → Reaction → (List ℕ → List Key → List X) → List Key → ℕ → List ℕ → List X
@@ -134,9 +138,12 @@ CanJoinAt r ks v (Some f) =
     let slots = fused_slots r f v (union_of (sets_of ks)) ks in
     (c : ℕ) → c < r.scattering.theory.choices v → CanJoin (slot_partials (four_slots slots)) (r.choice v c) (hole_of slots)
 
--- so it is wherever these nodes meet
+-- it holds wherever these nodes meet
+abbrev pub MeetWell : Reaction → Bool → (List Key → Meeting → Type 0) → List Key → Type 0
+MeetWell r closing P ks = (m : Meeting) → IsMeeting r closing ks m → P ks m
+
 abbrev pub CanMeet : Reaction → List Key → Type 0
-CanMeet r ks = (m : Meeting) → IsMeeting r false ks m → CanJoinAt r ks m.vertex m.up
+CanMeet r = MeetWell r false (λ ks m. CanJoinAt r ks m.vertex m.up)
 
 -- it holds for all nodes of which some are chosen and one of each part is added
 abbrev pub AllFrom : (List Key → Type 0) → List Key → List ℕ → List ℕ → Type 0
@@ -154,7 +161,7 @@ abbrev pub CanClose : Reaction → List Key → ℕ → Type 0
 CanClose r ks v = (c : ℕ) → c < r.scattering.theory.choices v → Fits (slot_partials (four_slots (closed_slots r v ks))) (r.choice v c) no_hole
 
 abbrev pub CanCloseAt : Reaction → List Key → Type 0
-CanCloseAt r ks = (m : Meeting) → IsMeeting r true ks m → CanClose r ks m.vertex
+CanCloseAt r = MeetWell r true (λ ks m. CanClose r ks m.vertex)
 
 abbrev pub CanCloseFrom : Reaction → List Key → List ℕ → List ℕ → Type 0
 CanCloseFrom r = AllFrom (CanCloseAt r)

@@ -9,14 +9,13 @@ use Rattle.om_graph.specs.declared.Key.{Key}
 use Rattle.om_graph.specs.declared.KeyTerm.{KeyTerm}
 use Rattle.om_graph.specs.declared.Term.{Term}
 use Rattle.om_graph.specs.declared.TheConstants.{MOST_TERMS}
-use Rattle.om_graph.specs.declared.closings.Closed.{Closed}
 use Rattle.om_graph.specs.declared.fusions.Fused.{Fused}
-use Rattle.om_graph.specs.declared.key_terms.Row.{Row}
+use Rattle.om_graph.specs.declared.closed_rows.Row.{Row}
 use Rattle.om_graph.specs.Fusion.{IsNode}
 use Rattle.om_graph.specs.Graph.{at_numbers}
-use Rattle.om_graph.specs.Loops.{chosen_nodes, row_seen}
+use Rattle.om_graph.specs.Loops.{Signed, chosen_nodes}
 use Rattle.om_graph.specs.Possible.{flow_lt, nodes_at, state_of, unsigned_key}
-use Rattle.om_graph.specs.Search.{HasDone, Ready, State, walk, numbered, flows_of}
+use Rattle.om_graph.specs.Search.{HasDone, Ready, walk, numbered, flows_of}
 use Rattle.om_graph.specs.SetSearch.{set_search, closings_of}
 use Rattle.om_graph.specs.TreeKeys.{IsReaction}
 use Rattle.om_graph.specs.Vertices.{Reaction, fusion, fused_minus, closed_minus}
@@ -43,19 +42,16 @@ HasKeySign r ns y = (ks : List Key) × (at_numbers ns (nodes_at y.branches) ≡ 
 abbrev pub KeysHaveSigns : Reaction → List Key → List KeyTerm → Type 0
 KeysHaveSigns r ns ys = (y : KeyTerm) → In y ys → HasKeySign r ns y
 
-abbrev pub HasClosedSign : Reaction → List Key → Closed → Type 0
-HasClosedSign r ns y = (ks : List Key) × (at_numbers ns (chosen_nodes y.branches) ≡ Some ks) × (y.minus ≡ closed_minus r y.vertex ks)
+-- the sign of what closes
+abbrev pub HasClosedSign : Reaction → List Key → Signed Flow → Type 0
+HasClosedSign r ns x = (ks : List Key) × (at_numbers ns x.found.branches ≡ Some ks) × (x.minus ≡ closed_minus r x.found.vertex ks)
 
--- the sign of what closes, where its flow has a number
+-- the same of a row
 abbrev pub HasRowSign : Reaction → List Key → Row → Type 0
 HasRowSign r ns y = (ks : List Key) × (at_numbers ns (chosen_nodes y.branches) ≡ Some ks) × (y.minus ≡ closed_minus r y.vertex ks)
 
 abbrev pub RowsHaveSigns : Reaction → List Key → List Row → Type 0
 RowsHaveSigns r ns ys = (y : Row) → In y ys → HasRowSign r ns y
-
--- flows with what closes to them
-abbrev pub row_state_of : List Flow → List Row → State Flow
-row_state_of ws ys = record { nodes = ws; terms = map row_seen ys }
 
 -- with another number of its flow
 abbrev pub renumbered : List ℕ → Row → Row

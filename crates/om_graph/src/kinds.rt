@@ -1,6 +1,6 @@
 //! The choices of vertices that rows have.
 
-use crate::key_terms::Row;
+use crate::closed_rows::Row;
 use crate::runs::add_up;
 use om_ring::NoMemory;
 use std::alloc::Global;
@@ -11,7 +11,7 @@ const MOST_CHOICES: usize = 6;
 /// The choices of vertices that rows have, numbered in order.
 #[derive(Drop)]
 pub(crate) struct Kinds {
-    numbers: Vec<usize>,
+    numbers: Vec<u32>,
     pub(crate) count: usize,
 }
 
@@ -25,19 +25,19 @@ impl Kinds {
             }
             mark(&mut numbers, choice);
         }
-        let count = add_up(&mut numbers);
+        let count = add_up(&mut numbers) as usize;
         Ok(Kinds { numbers, count })
     }
 
-    /// The number of a row's flow and choice among those of all flows and choices.
-    pub(crate) fn bucket(&self, row: &Row) -> usize {
+    /// The number of a row's choice at a flow, among those of all flows and choices.
+    pub(crate) fn bucket(&self, row: &Row, flow: u32) -> usize {
         let choice = choice_of(row.vertex, row.choice);
         let number = if choice < self.numbers.len() {
-            self.numbers[choice]
+            self.numbers[choice] as usize
         } else {
             0
         };
-        (row.flow as usize)
+        (flow as usize)
             .wrapping_mul(self.count)
             .wrapping_add(number)
     }
@@ -48,7 +48,7 @@ fn choice_of(vertex: u32, choice: u8) -> usize {
     vertex as usize * MOST_CHOICES + choice as usize
 }
 
-fn mark(numbers: &mut [usize], choice: usize) {
+fn mark(numbers: &mut [u32], choice: usize) {
     if choice < numbers.len() {
         numbers[choice] = 1;
     }

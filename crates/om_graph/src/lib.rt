@@ -8,20 +8,24 @@
 #![tactic(auto)]
 
 mod chosen;
+mod closed_rows;
 mod closings;
 mod edges;
 mod fields;
 mod fillings;
-mod flow_rows;
 mod fusions;
+mod key_order;
 mod key_terms;
 mod kinds;
 mod known_row;
 pub mod laws;
+mod limit;
 mod lines;
 mod linked;
 mod lookup;
+mod meets;
 mod nodes;
+mod ordered_keys;
 mod partitions;
 mod parts;
 mod possible_graph;

@@ -1,16 +1,13 @@
 //! Nodes with the lines of each, for closing.
 ghost use Rattle.std.specs.Prelude.{◌≡◌, ◌≤◌, Some, length, map, take, IfOk};
-ghost use Rattle.om_graph.specs.Caches.{AllBelow, in_range};
+ghost use Rattle.om_graph.specs.Caches.{AllBelow};
 ghost use Rattle.om_graph.specs.Graph.{at_numbers};
 ghost use Rattle.om_graph.specs.Loops.{chosen_nodes};
-ghost use Rattle.om_graph.specs.Tuples.{numbers_over};
 ghost use Rattle.om_graph.specs.Words.{lines_of_key};
 
-use crate::Key;
 use crate::chosen::Chosen;
 use crate::lines::{Lines, lines_of};
-use crate::nodes::{Nodes, Range};
-use om_legs::LegSet;
+use crate::nodes::Nodes;
 use om_ring::NoMemory;
 use std::alloc::Global;
 use std::marker::Model;
@@ -47,23 +44,11 @@ impl<'a> Linked<'a> {
         Ok(Linked { nodes, lines })
     }
 
-    /// The nodes of a set.
-    pub(crate) fn of(&self, set: LegSet) -> Range
-        ensures numbers { in_range result ≡ numbers_over (λ k. k.legs) self.now set }
-        ensures rising { result.first ≤ result.end }
-        ensures within { result.end ≤ length self.now }
+    /// The nodes alone.
+    pub(crate) fn nodes(&self) -> &Nodes
+        ensures { result.now ≡ self.now }
     {
-        self.nodes.of(set)
-    }
-
-    /// The keys of the nodes that are chosen, two to four; the places past them hold the first.
-    pub(crate) fn keys_of(&self, chosen: Chosen) -> [Key; 4]
-        requires some { 2 ≤ chosen.count }
-        requires few { chosen.count ≤ 4 }
-        requires known { AllBelow (length self.now) (chosen_nodes chosen) }
-        ensures { at_numbers self.now (chosen_nodes chosen) ≡ Some (take chosen.count result) }
-    {
-        self.nodes.keys_of(chosen)
+        self.nodes
     }
 
     /// The lines of three or four chosen nodes; the place past three holds the first.

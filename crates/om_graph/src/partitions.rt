@@ -1,18 +1,19 @@
 //! What nodes close to over all legs, partition by partition.
-ghost use Rattle.std.specs.Prelude.{◌≡◌, ℕ, ◌≤◌, ◌++◌, List as ListOf, [], map, flat_map, length, Contains, OnOk, true};
+ghost use Rattle.std.specs.Prelude.{◌≡◌, ℕ, ◌≤◌, ◌++◌, List as ListOf, [], flat_map, length, Contains, OnOk, true};
 ghost use Rattle.om_legs.specs.Legs.{all_legs};
 ghost use Rattle.om_legs.specs.Splits.{AreSplits};
 ghost use Rattle.om_model.specs.Diagram.{all_in};
 ghost use Rattle.om_graph.specs.Fillings.{AreFillings};
-ghost use Rattle.om_graph.specs.Loops.{Adds, CanCloseFrom, CanCloseOver, closed_seen, meet_closed, met_partition};
+ghost use Rattle.om_graph.specs.Loops.{Adds, CanCloseFrom, CanCloseOver, meet_closed, met_partition};
 ghost use Rattle.om_graph.specs.Reactions.{reaction_in};
 ghost use Rattle.om_graph.specs.Vertices.{is_outward as is_outward_of, keeps_edges};
 
 use crate::BuildFault;
 use crate::chosen::Chosen;
-use crate::closings::{Closed, add_tuples};
+use crate::closed_rows::ClosedRows;
 use crate::fillings::Fillings;
 use crate::linked::Linked;
+use crate::meets::add_tuples;
 use crate::reaction::{Reaction, is_outward};
 use crate::valence::has_valence;
 use om_legs::{FourParts, LegSet, ThreeParts, partitions3, partitions4};
@@ -24,10 +25,10 @@ pub(crate) fn add_closings(
     reaction: &Reaction<'_>,
     nodes: &Linked<'_>,
     limit: usize,
-    found: &mut Vec<Closed>,
+    found: &mut ClosedRows,
 ) -> Result<(), BuildFault>
     requires close { CanCloseOver (reaction_in reaction.now) nodes.now }
-    ensures added { (threes fours : ListOf (ListOf ℕ)) × AreSplits 3 (all_legs (reaction_in reaction.now).scattering.size) threes × AreSplits 4 (all_legs (reaction_in reaction.now).scattering.size) fours × Adds limit (map closed_seen found.old.items) (flat_map (met_partition (reaction_in reaction.now) (meet_closed (reaction_in reaction.now)) nodes.now) threes ++ flat_map (met_partition (reaction_in reaction.now) (meet_closed (reaction_in reaction.now)) nodes.now) fours) (map closed_seen found.new.items) result }
+    ensures added { (threes fours : ListOf (ListOf ℕ)) × AreSplits 3 (all_legs (reaction_in reaction.now).scattering.size) threes × AreSplits 4 (all_legs (reaction_in reaction.now).scattering.size) fours × Adds limit found.old (flat_map (met_partition (reaction_in reaction.now) (meet_closed (reaction_in reaction.now)) nodes.now) threes ++ flat_map (met_partition (reaction_in reaction.now) (meet_closed (reaction_in reaction.now)) nodes.now) fours) found.new result }
 {
     let mut fillings = Fillings::new(alloc, true);
     let threes = partitions3(reaction.size());
@@ -46,13 +47,13 @@ fn add_threes(
     fillings: &mut Fillings,
     limit: usize,
     splits: ThreeParts,
-    found: &mut Vec<Closed>,
+    found: &mut ClosedRows,
 ) -> Result<(), BuildFault>
     requires close { (parts : ListOf ℕ) → Contains splits parts → CanCloseFrom (reaction_in reaction.now) nodes.now [] parts }
     requires lengths { (parts : ListOf ℕ) → Contains splits parts → length parts ≡ 3 }
     requires cached { AreFillings (reaction_in reaction.now) true fillings.old }
     ensures cached { OnOk result (AreFillings (reaction_in reaction.now) true fillings.new) }
-    ensures added { Adds limit (map closed_seen found.old.items) (flat_map (met_partition (reaction_in reaction.now) (meet_closed (reaction_in reaction.now)) nodes.now) splits) (map closed_seen found.new.items) result }
+    ensures added { Adds limit found.old (flat_map (met_partition (reaction_in reaction.now) (meet_closed (reaction_in reaction.now)) nodes.now) splits) found.new result }
 {
     for parts in splits {
         if let Err(fault) = add_partition(alloc, reaction, nodes, fillings, limit, &parts, found) {
@@ -70,13 +71,13 @@ fn add_fours(
     fillings: &mut Fillings,
     limit: usize,
     splits: FourParts,
-    found: &mut Vec<Closed>,
+    found: &mut ClosedRows,
 ) -> Result<(), BuildFault>
     requires close { (parts : ListOf ℕ) → Contains splits parts → CanCloseFrom (reaction_in reaction.now) nodes.now [] parts }
     requires lengths { (parts : ListOf ℕ) → Contains splits parts → length parts ≡ 4 }
     requires cached { AreFillings (reaction_in reaction.now) true fillings.old }
     ensures cached { OnOk result (AreFillings (reaction_in reaction.now) true fillings.new) }
-    ensures added { Adds limit (map closed_seen found.old.items) (flat_map (met_partition (reaction_in reaction.now) (meet_closed (reaction_in reaction.now)) nodes.now) splits) (map closed_seen found.new.items) result }
+    ensures added { Adds limit found.old (flat_map (met_partition (reaction_in reaction.now) (meet_closed (reaction_in reaction.now)) nodes.now) splits) found.new result }
 {
     if !has_valence(reaction, 4) {
         return Ok(());
@@ -90,7 +91,7 @@ fn add_fours(
 }
 
 // What the nodes of some parts close to, where each lies away from the keystone and the named edges stay whole.
-#[tactic(auto, unfolding(crate::specs::Loops::met_partition))]
+#[tactic(auto, unfolding(crate::specs::Loops::met_partition, crate::specs::Loops::meet_closed))]
 fn add_partition(
     alloc: Global,
     reaction: &Reaction<'_>,
@@ -98,14 +99,14 @@ fn add_partition(
     fillings: &mut Fillings,
     limit: usize,
     parts: &[LegSet],
-    found: &mut Vec<Closed>,
+    found: &mut ClosedRows,
 ) -> Result<(), BuildFault>
     requires some { 3 ≤ length parts.now }
     requires few { length parts.now ≤ 4 }
     requires close { CanCloseFrom (reaction_in reaction.now) nodes.now [] parts.now }
     requires cached { AreFillings (reaction_in reaction.now) true fillings.old }
     ensures cached { OnOk result (AreFillings (reaction_in reaction.now) true fillings.new) }
-    ensures added { Adds limit (map closed_seen found.old.items) (met_partition (reaction_in reaction.now) (meet_closed (reaction_in reaction.now)) nodes.now parts.now) (map closed_seen found.new.items) result }
+    ensures added { Adds limit found.old (met_partition (reaction_in reaction.now) (meet_closed (reaction_in reaction.now)) nodes.now parts.now) found.new result }
 {
     if are_outward(parts, reaction.size()) && keep_edges(reaction, parts) {
         let none = Chosen::new();

@@ -7,6 +7,7 @@ ghost use Rattle.om_graph.specs.SetWalk.{CanCloseAll, ClosesAll};
 ghost use Rattle.om_model.specs.ProcessOf.{IsProcessOf};
 ghost use Rattle.om_model.specs.WellFormed.{IsWellFormed};
 
+use crate::closed_rows::ClosedRows;
 use crate::key_terms::add_key_terms;
 use crate::linked::Linked;
 use crate::nodes::Nodes;
@@ -108,7 +109,9 @@ fn add_linked(
     requires no_flows { flows.old ≡ [] }
     ensures { ClosesAll (reaction_in reaction.now) nodes.now limit keys.new flows.new result }
 {
-    let mut found = Vec::new(alloc);
+    let Ok(mut found) = ClosedRows::new(alloc) else {
+        return Err(BuildFault::Memory);
+    };
     if let Err(fault) = add_closings(alloc, reaction, nodes, limit, &mut found) {
         return Err(fault);
     }

@@ -9,7 +9,8 @@ ghost use Rattle.om_graph.specs.Reactions.{reaction_in};
 use crate::BuildFault;
 use crate::chosen::Chosen;
 use crate::fillings::Fillings;
-use crate::fusions::{Fused, add_tuples};
+use crate::fusions::Fused;
+use crate::meets::add_tuples;
 use crate::nodes::Nodes;
 use crate::reaction::Reaction;
 use crate::valence::has_valence;
@@ -98,7 +99,7 @@ fn add_triples(
 }
 
 // What the nodes of some parts fuse to, where the named edges stay whole.
-#[tactic(auto, unfolding(crate::specs::Loops::met_parts))]
+#[tactic(auto, unfolding(crate::specs::Loops::met_parts, crate::specs::Loops::meet_fused))]
 fn add_split(
     alloc: Global,
     reaction: &Reaction<'_>,

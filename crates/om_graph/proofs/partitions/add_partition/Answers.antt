@@ -3,5 +3,5 @@ use Rattle.om_graph.specs.Loops.{CanCloseFrom}
 use Rattle.om_graph.specs.Reactions.{reaction_in}
 use Rattle.om_graph.proofs.partitions.add_partition.Goals as goal
 
-pub add_tuples-requires-clause-close : goal.add_tuples-requires-clause-close
-add_tuples-requires-clause-close c = subst (λ (is : List ℕ). CanCloseFrom (reaction_in c.args.reaction.now) c.args.nodes.now is c.args.parts.now) (sym c.new-none.ensures.nodes) c.requires.close
+pub add_tuples-requires-clause-fit : goal.add_tuples-requires-clause-fit
+add_tuples-requires-clause-fit c = subst (λ (is : List ℕ). CanCloseFrom (reaction_in c.args.reaction.now) c.args.nodes.now is c.args.parts.now) (sym c.new-none.ensures.nodes) c.requires.close

@@ -1,5 +1,5 @@
-use Rattle.std.proofs.Common.{map, arith}
-use Rattle.om_graph.specs.Loops.{closed_seen, meet_closed, met_partition}
+use Rattle.std.proofs.Common.{arith}
+use Rattle.om_graph.specs.Loops.{meet_closed, met_partition}
 use Rattle.om_graph.specs.Reactions.{reaction_in}
 use Rattle.om_graph.proofs.Steps.{all_yielded, contained, one_yielded, stops_yielded}
 use Rattle.om_graph.proofs.partitions.add_threes.Goals as goal
@@ -12,13 +12,13 @@ add_partition-requires c =
 
 pub loop-parts-preserved : goal.loop-parts-preserved
 loop-parts-preserved c = record {
-  all = one_yielded (met_partition (reaction_in c.args.reaction.now) (meet_closed (reaction_in c.args.reaction.now)) c.args.nodes.now) c.loop-parts.yielded c.in-Some.parts (map closed_seen c.args.found.now.items) c.loop-parts.invariant.all c.in_default.ensures.added.0;
+  all = one_yielded (met_partition (reaction_in c.args.reaction.now) (meet_closed (reaction_in c.args.reaction.now)) c.args.nodes.now) c.loop-parts.yielded c.in-Some.parts c.args.found.now c.loop-parts.invariant.all c.in_default.ensures.added.0;
   fits = λ h. c.in_default.ensures.added.1 (c.loop-parts.invariant.fits h);
   cached = c.in_default.ensures.cached;
 }
 
 pub returns-in-Err-clause-added : goal.returns-in-Err-clause-added
-returns-in-Err-clause-added c = λ e. stops_yielded c.loop-parts.yielded c.loop-parts.parts-iterator c.next.new.self c.into_iter-parts-iterator.ensures.into_iter_gives c.loop-parts.yielded_by c.next.ensures.steps (met_partition (reaction_in c.args.reaction.now) (meet_closed (reaction_in c.args.reaction.now)) c.args.nodes.now) (map closed_seen c.args.found.now.items) c.in-Some.is c.loop-parts.invariant.all (c.in-Err.ensures.added e)
+returns-in-Err-clause-added c = λ e. stops_yielded c.loop-parts.yielded c.loop-parts.parts-iterator c.next.new.self c.into_iter-parts-iterator.ensures.into_iter_gives c.loop-parts.yielded_by c.next.ensures.steps (met_partition (reaction_in c.args.reaction.now) (meet_closed (reaction_in c.args.reaction.now)) c.args.nodes.now) c.args.found.now c.in-Some.is c.loop-parts.invariant.all (c.in-Err.ensures.added e)
 
 pub returns-clause-added : goal.returns-clause-added
-returns-clause-added c = (all_yielded c.loop-parts.yielded c.loop-parts.parts-iterator c.next.new.self c.into_iter-parts-iterator.ensures.into_iter_gives c.loop-parts.yielded_by c.next.ensures.steps (met_partition (reaction_in c.args.reaction.now) (meet_closed (reaction_in c.args.reaction.now)) c.args.nodes.now) (map closed_seen c.args.found.now.items) c.in-None.is c.loop-parts.invariant.all, c.loop-parts.invariant.fits)
+returns-clause-added c = (all_yielded c.loop-parts.yielded c.loop-parts.parts-iterator c.next.new.self c.into_iter-parts-iterator.ensures.into_iter_gives c.loop-parts.yielded_by c.next.ensures.steps (met_partition (reaction_in c.args.reaction.now) (meet_closed (reaction_in c.args.reaction.now)) c.args.nodes.now) c.args.found.now c.in-None.is c.loop-parts.invariant.all, c.loop-parts.invariant.fits)

@@ -8,21 +8,21 @@ add_closings-requires c = record { close = can_close_over (reaction_in c.args.re
 pub returns-in-Err : goal.returns-in-Err
 returns-in-Err c = λ e.
     let a = c.in-Err.ensures.added in
-    close_large (reaction_in c.args.reaction.now) c.args.nodes.now c.requires.can a.0 a.1 a.2 a.3 c.new-found.result.items c.args.limit c.new-found.ensures.items (a.4 e)
+    close_large (reaction_in c.args.reaction.now) c.args.nodes.now c.requires.can a.0 a.1 a.2 a.3 c.in-Ok.found c.args.limit c.in-Ok.ensures (a.4 e)
 
 pub add_key_terms-requires : goal.add_key_terms-requires
 add_key_terms-requires c =
-    let a = c.in_default.ensures.added in
+    let a = c.in_default-add_closings.ensures.added in
     record {
       no_flows = c.requires.no_flows;
       no_keys = c.requires.no_keys;
-      several = closed_several (reaction_in c.args.reaction.now) c.args.nodes.now c.requires.can a.0 a.1 a.2 a.3 c.new-found.result.items c.add_closings.new.found.items c.new-found.ensures.items a.4.0;
-      counted = all_counted (reaction_in c.args.reaction.now) c.args.nodes.now c.requires.can a.0 a.1 a.2 a.3 c.new-found.result.items c.add_closings.new.found.items c.new-found.ensures.items a.4.0;
-      different = closed_different (reaction_in c.args.reaction.now) c.args.nodes.now c.requires.can a.0 a.1 a.2 a.3 c.new-found.result.items c.add_closings.new.found.items c.new-found.ensures.items a.4.0;
+      several = closed_several (reaction_in c.args.reaction.now) c.args.nodes.now c.requires.can a.0 a.1 a.2 a.3 c.in-Ok.found c.add_closings.new.found c.in-Ok.ensures a.4.0;
+      counted = all_counted (reaction_in c.args.reaction.now) c.args.nodes.now c.requires.can a.0 a.1 a.2 a.3 c.in-Ok.found c.add_closings.new.found c.in-Ok.ensures a.4.0;
+      different = closed_different (reaction_in c.args.reaction.now) c.args.nodes.now c.requires.can a.0 a.1 a.2 a.3 c.in-Ok.found c.add_closings.new.found c.in-Ok.ensures a.4.0;
     }
 
-pub returns-in-Ok : goal.returns-in-Ok
-returns-in-Ok c =
-    let a = c.in_default.ensures.added in
-    closes (reaction_in c.args.reaction.now) c.args.nodes.now c.requires.can a.0 a.1 a.2 a.3 c.new-found.result.items c.add_closings.new.found.items c.new-found.ensures.items a.4.0
-    c.args.limit a.4.1 c.add_key_terms.new.keys c.add_key_terms.new.flows c.in-Ok.ensures.flows c.in-Ok.ensures.keys c.in-Ok.ensures.signs
+pub returns-in-Ok-add_key_terms : goal.returns-in-Ok-add_key_terms
+returns-in-Ok-add_key_terms c =
+    let a = c.in_default-add_closings.ensures.added in
+    closes (reaction_in c.args.reaction.now) c.args.nodes.now c.requires.can a.0 a.1 a.2 a.3 c.in-Ok.found c.add_closings.new.found c.in-Ok.ensures a.4.0
+    c.args.limit a.4.1 c.add_key_terms.new.keys c.add_key_terms.new.flows c.in-Ok-add_key_terms.ensures.flows c.in-Ok-add_key_terms.ensures.keys c.in-Ok-add_key_terms.ensures.signs
