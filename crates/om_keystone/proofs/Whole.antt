@@ -1,10 +1,11 @@
 -- A graph whose nodes all have marks is the graph of the nodes with marks.
-use Rattle.std.proofs.Common.{◌≡◌, ℕ, zero, suc, ◌+◌, ◌<◌, List, [], ◌∷◌, map, filter, length, Bool, true, false, cond, true≢false, inl, inr, refl, ap, ap₂, sym, ◌∙◌, arith}
-use Rattle.std.specs.Prelude.{slice_index}
+use Rattle.std.proofs.Common.{◌≡◌, ℕ, zero, suc, ◌+◌, ◌<◌, List, [], ◌∷◌, map, filter, length, Bool, true, false, cond, true≢false, inl, inr, get_or, refl, ap, ap₂, sym, subst, ◌∙◌, arith}
+use Rattle.std.specs.Prelude.{All, slice_index}
 use Rattle.std.specs.List.{list_all}
 use Rattle.std.proofs.lemmas.Option.{slice_get_within}
 use Rattle.om_ring.specs.Members.{In}
 use Rattle.om_ring.proofs.Members.{in_map, in_mapped}
+use Rattle.om_graph.proofs.MeetingLists.{in_at}
 use Rattle.om_graph.specs.declared.Graph.{Graph}
 use Rattle.om_graph.specs.declared.KeyTerm.{KeyTerm}
 use Rattle.om_graph.specs.declared.Term.{Term}
@@ -27,6 +28,13 @@ possible_names_nodes r g possible = record {
       let b = at_number n (at_of g.nodes (nodes_at y.branches) t.branches t.are_branches) j in
       slice_get_within g.nodes n b.0 b.1;
 }
+
+-- the same, place by place
+pub all_below : {A : Type 0} (branches : A → List ℕ) (n m : ℕ) (xs read : List A) → ((x : A) → In x xs → (j : ℕ) → In j (branches x) → j < n) → m ≡ n → read ≡ xs → All (λ x. All (λ j. j < m) (branches x)) read
+all_below branches n m xs read h e f k d l i q r =
+    let x = get_or read k d in
+    let P : List _ → Type 0 = λ ys. In x ys in
+    subst (λ z. get_or (branches x) i q < z) (sym e) (h x (subst P f (in_at read k d l)) (get_or (branches x) i q) (in_at (branches x) i q r))
 
 mapped_same : {A : Type 0} (f : A → A) (xs : List A) → ((x : A) → In x xs → f x ≡ x) → map f xs ≡ xs
 mapped_same f [] h = refl
