@@ -8,8 +8,7 @@ ghost use Rattle.om_graph.specs.Search.{interned, place};
 use crate::BuildFault;
 use crate::chosen::Chosen;
 use crate::closings::Closed;
-use crate::lookup::find_unless_known;
-use crate::recent::{Recent, place_if_at, slot_of};
+use crate::recent::{Recent, is_at, slot_of};
 use om_colour::Flow;
 use om_cons::Table;
 use om_cons::laws::identical_keys;
@@ -73,7 +72,7 @@ impl ClosedRows {
         }
         let slot = slot_of(one.flow);
         let near = self.recent.at(slot);
-        let Ok(flow) = add_flow(&mut self.flows, near, one.flow) else {
+        let Ok(flow) = add_near(&mut self.flows, near, one.flow) else {
             return Err(BuildFault::Memory);
         };
         self.recent.put(slot, flow);
@@ -95,8 +94,23 @@ impl ClosedRows {
     }
 }
 
+// The number of a flow that was met at this place before, or else wherever it stands.
+#[inline(always)]
+fn add_near(flows: &mut Table<Flow>, near: u32, flow: Flow) -> Result<u32, NoMemory>
+    ensures flows { OnOk result (flows.new ≡ interned flow_lt flows.old flow) }
+    ensures number { IfOk result (λ number. number ≡ place flow_lt flows.new flow) }
+    ensures kept { OnErr result (flows.new ≡ flows.old) }
+{
+    identical_keys(flows);
+    if is_at(flows, near, flow) {
+        return Ok(near);
+    }
+    add_flow(flows, flow)
+}
+
 /// The number of a flow, which may be a new one.
-pub(crate) fn add_flow(flows: &mut Table<Flow>, near: usize, flow: Flow) -> Result<u32, NoMemory>
+#[inline(never)]
+pub(crate) fn add_flow(flows: &mut Table<Flow>, flow: Flow) -> Result<u32, NoMemory>
     ensures flows { OnOk result (flows.new ≡ interned flow_lt flows.old flow) }
     ensures number { IfOk result (λ number. number ≡ place flow_lt flows.new flow) }
     ensures kept { OnErr result (flows.new ≡ flows.old) }
@@ -105,8 +119,7 @@ pub(crate) fn add_flow(flows: &mut Table<Flow>, near: usize, flow: Flow) -> Resu
         return Err(NoMemory);
     };
     identical_keys(flows);
-    let known = place_if_at(flows, near, flow);
-    if let Some(place) = find_unless_known(flows, known, &flow) {
+    if let Some(place) = flows.find(&flow) {
         return Ok(place as u32);
     }
     if flows.intern(flow).is_err() {

@@ -1,5 +1,5 @@
 //! Where flows stood when they were last met.
-ghost use Rattle.std.specs.Prelude.{◌≡◌, IfSome, Some, slice_get};
+ghost use Rattle.std.specs.Prelude.{◌≡◌, IsTrue, Some, slice_get};
 
 use crate::lines::{are_same, words_of};
 use om_colour::Flow;
@@ -25,9 +25,9 @@ impl Recent {
     }
 
     /// What stands in a slot.
-    pub(crate) fn at(&self, slot: usize) -> usize {
+    pub(crate) fn at(&self, slot: usize) -> u32 {
         if slot < self.numbers.len() {
-            self.numbers[slot] as usize
+            self.numbers[slot]
         } else {
             0
         }
@@ -50,13 +50,10 @@ pub(crate) fn slot_of(flow: Flow) -> usize {
     (mixed >> 48) as usize
 }
 
-/// This place, where the flow stands there.
-pub(crate) fn place_if_at(flows: &Table<Flow>, near: usize, flow: Flow) -> Option<usize>
-    ensures { IfSome result (λ place. slice_get flows.now place ≡ Some flow) }
+/// Whether the flow stands at this place.
+pub(crate) fn is_at(flows: &Table<Flow>, place: u32, flow: Flow) -> bool
+    ensures { IsTrue result → slice_get flows.now place ≡ Some flow }
 {
-    if near < flows.len() && are_same(*flows.at(near), flow) {
-        Some(near)
-    } else {
-        None
-    }
+    let place = place as usize;
+    place < flows.len() && are_same(*flows.at(place), flow)
 }
