@@ -12,7 +12,6 @@ use om_legs::LegSet;
 use om_model::anti_field;
 use om_ring::NoMemory;
 use std::alloc::Global;
-use std::mem;
 
 /// A vertex at which nodes meet, with the parts at its slots.
 #[derive(Drop)]
@@ -73,11 +72,9 @@ impl Fillings {
         }
         self.last = None;
         let place = self.meetings.place_of(alloc, reaction, keys)?;
-        let mut found = mem::replace(&mut self.fillings, Vec::new(alloc));
+        let closing = self.meetings.closing;
         let met = self.meetings.at(place);
-        let refilled = refill(&mut found, reaction, self.meetings.closing, met, &sides);
-        self.fillings = found;
-        refilled?;
+        refill(&mut self.fillings, reaction, closing, met, &sides)?;
         self.last = Some(sides);
         Ok(())
     }

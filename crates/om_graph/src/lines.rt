@@ -141,7 +141,7 @@ pub(crate) fn closed(parts: &Parts, keys: &[Key], slots: &[Lines; 4], choice: &C
 {
     let _parts = parts;
     let _keys = keys;
-    let [a, b, c, d] = *slots;
+    let [a, b, c, d] = slots;
     let into = [0, a.into, b.into, c.into, d.into];
     let ends = [
         into[choice.to[0] as usize],
