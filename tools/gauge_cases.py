@@ -52,7 +52,7 @@ def main():
     text = "".join(f"{key} = {inline(value)}\n" for key, value in model.items())
     print("//! Gauge invariance, exactly: with the momentum of a photon or gluon in place of its wave function each flow is 0, with a generic one it isn't.")
     print("//! Written by tools/gauge_cases.py; the numbers are those of another program.")
-    print("use super::case::{Case, FOUR, check_case};\nuse std::test::Fail;\n")
+    print("use super::case::{Case, FOUR, check_cases};\nuse std::test::Fail;\n")
     print(f"// The standard model, `models/sm.toml` in short.\nconst STANDARD_MODEL: &str =\n    {literal(text)};\n")
     print("const CASES: &[Case] = &[")
     for process, leg in CHECKS:
@@ -64,10 +64,7 @@ def main():
             print(f'        words: &["eval", "model.toml", "{process}"],\n        file: Some(STANDARD_MODEL),')
             print(f"        input: {literal(text)},\n        out: {literal(out)},\n        ..FOUR\n    }},")
     print("];\n")
-    print(
-        "#[test]\nfn gauge_invariance_is_exact(rt: HostRuntime) -> Result<(), Fail> {\n    for case in CASES {\n"
-        "        check_case(&rt, rt.alloc(), case)?;\n    }\n    Ok(())\n}"
-    )
+    print("#[test]\nfn gauge_invariance_is_exact(rt: HostRuntime) -> Result<(), Fail> {\n    check_cases(&rt, rt.alloc(), CASES)\n}")
 
 
 if __name__ == "__main__":

@@ -6,15 +6,15 @@ use Rattle.std.proofs.lemmas.List.Elements.{All-head, All-tail}
 use Rattle.om_ring.specs.Spelt.{decimal_below}
 use Rattle.om_legs.specs.declared.leg_set.TheConstants.{MOST_LEGS}
 use Rattle.om_model.specs.declared.limits.TheConstants.{FEWEST_LEGS}
-use Rattle.om_top.specs.Command.{Command, check, eval, compile, run, graph, sample, command_of, sample_by, sample_of}
+use Rattle.om_top.specs.Command.{Command, check, eval, write, run, sample, command_of, sample_by, sample_of}
+use Rattle.om_top.specs.declared.command.Written.TheVariants.{Program, Listing}
 
 -- the text of a process, where a command has one
 abbrev pub text_of : Command → List ℕ
 text_of (check model) = []
 text_of (eval model process) = process
-text_of (compile model process) = process
+text_of (write written model process) = process
 text_of (run program) = []
-text_of (graph model process) = process
 text_of (sample seed legs) = []
 
 module _ (n : ℕ) (some : 0 < n) (command : Command) where
@@ -39,10 +39,10 @@ module _ (n : ℕ) (some : 0 < n) (command : Command) where
   by_sample (Some seed) (Some legs) e = by_enough (nat_le FEWEST_LEGS legs) seed legs e
 
   by_two : (a b c d : Bool) (first second : List ℕ) (x : Option Command) → length second < n → (x ≡ Some command → length (text_of command) < n)
-      → (if a then Some (eval first second) else (if b then Some (compile first second) else (if c then Some (graph first second) else (if d then x else None)))) ≡ Some command → length (text_of command) < n
+      → (if a then Some (eval first second) else (if b then Some (write Program first second) else (if c then Some (write Listing first second) else (if d then x else None)))) ≡ Some command → length (text_of command) < n
   by_two true b c d first second x h k e = asked (eval first second) h e
-  by_two false true c d first second x h k e = asked (compile first second) h e
-  by_two false false true d first second x h k e = asked (graph first second) h e
+  by_two false true c d first second x h k e = asked (write Program first second) h e
+  by_two false false true d first second x h k e = asked (write Listing first second) h e
   by_two false false false true first second x h k e = k e
   by_two false false false false first second x h k e = none_asked e
 

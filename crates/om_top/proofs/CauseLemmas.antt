@@ -6,26 +6,24 @@ use Rattle.om_model.specs.declared.model.Model.{Model}
 use Rattle.om_model.specs.declared.process.Process.{Process}
 use Rattle.om_graph.specs.declared.Graph.{Graph}
 use Rattle.om_code.specs.declared.code.Code.{Code}
-use Rattle.om_emit.specs.GraphCode.{IsCodeOf}
-use Rattle.om_program_text.specs.ProgramText.{program_text}
-use Rattle.om_listing.specs.Listing.{listing}
 use Rattle.om_top.specs.CheckRan.{check_text}
 use Rattle.om_top.specs.EvalRan.{Evaluates}
 use Rattle.om_top.specs.SampleRan.{SampleRan}
 use Rattle.om_top.specs.Causes.{ModelCause, ProcessCause, QuietEndings, SizeCause, ProgramCause, RefusesModel, RefusesProcess, RefusesProgram, is_quiet}
-use Rattle.om_top.specs.Command.{check, eval, compile, run, graph, sample}
+use Rattle.om_top.specs.Command.{check, eval, write, run, sample}
 use Rattle.om_top.specs.Loads.{HoldsModel, HoldsProgram, IsModelFile, IsProgramFile, IsTooLarge, SaysFault, SaysProgramFault}
 use Rattle.om_top.specs.Message.{status_of}
 use Rattle.om_top.specs.Outside.{Side, Failed, IsUntouched, Writes}
 use Rattle.om_top.specs.Refusals.{WithModel, WithProcess, WithGraph, WithProgram}
 use Rattle.om_top.specs.RunRan.{OwesMeaning, RunsCode}
 use Rattle.om_top.specs.Streamed.{Streamed, kinds_of}
+use Rattle.om_top.specs.WriteRan.{WritesNamed}
 use Rattle.om_top.specs.declared.ending.Ending.{Ending}
 use Rattle.om_top.specs.declared.ending.Ending.TheVariants.{Done, OutFault, Usage, ModelTooLong, ModelFault, ProcessFault, GraphTooLarge, ProgramTooLong, ProgramFault, FileFault, NoMemory}
 use Rattle.om_top.specs.declared.load.model.TheConstants.{MOST_MODEL_BYTES}
 use Rattle.om_top.specs.declared.load.program.TheConstants.{MOST_PROGRAM_BYTES}
 use Rattle.om_top.proofs.Accepted.{holds_file, holds_text, never_large, no_program_fault, told_file, told_long, with_model, with_process}
-use Rattle.om_top.proofs.Endings.{by_graph, by_model, not_five, not_four, not_nine, other_own, own_evaluates, own_streamed, own_unless, own_writes}
+use Rattle.om_top.proofs.Endings.{by_graph, by_model, not_five, not_four, not_nine, other_own, own_evaluates, own_streamed, own_unless, own_writes, own_written}
 use Rattle.om_top.proofs.Files.{no_fault}
 
 -- the status is another one
@@ -143,10 +141,8 @@ module _ {E : Type 0} (o : Ops E) (show : E → List ℕ) where
   quiet_endings (Some (check name)) x e ran q = (ran.0, quiet_model o (x.file name) (IsUntouched x.out) (λ m. Writes x.out (check_text m)) e (λ m h. own_writes x.out (check_text m) e h) ran.1 q)
   quiet_endings (Some (eval name text)) x e ran q =
       quiet_graph o (x.file name) text (IsUntouched x.input × IsUntouched x.out) (λ m p g. Evaluates o show m p x.input x.out) e (λ m p g h. own_evaluates o show m p x.input x.out e h) ran q
-  quiet_endings (Some (compile name text)) x e ran q =
-      (ran.0, quiet_graph o (x.file name) text (IsUntouched x.out) (λ m p g e. (c : Code) × IsCodeOf m p g c × Writes x.out (program_text c) e) e (λ m p g h. own_writes x.out (program_text h.0) e h.2) ran.1 q)
+  quiet_endings (Some (write written name text)) x e ran q =
+      (ran.0, quiet_graph o (x.file name) text (IsUntouched x.out) (λ m p g. WritesNamed written m p g x.out) e (λ m p g h. own_written written m p g x.out e h) ran.1 q)
   quiet_endings (Some (run name)) x e ran q =
       quiet_program o (x.file name) (IsUntouched x.input × IsUntouched x.out) (λ c. RunsCode o show c x.input x.out) e (λ c h. own_runs o show c x.input x.out e h) ran q
-  quiet_endings (Some (graph name text)) x e ran q =
-      (ran.0, quiet_graph o (x.file name) text (IsUntouched x.out) (λ m p g. Writes x.out (listing m g)) e (λ m p g h. own_writes x.out (listing m g) e h) ran.1 q)
   quiet_endings (Some (sample seed legs)) x e ran q = (ran.0, quiet_sample seed legs x.out e ran.1 q)

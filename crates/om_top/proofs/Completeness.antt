@@ -10,7 +10,6 @@ use Rattle.om_model.specs.declared.model.Model.{Model}
 use Rattle.om_model.specs.declared.process.Process.{Process}
 use Rattle.om_graph.specs.declared.Graph.{Graph}
 use Rattle.om_code.specs.declared.code.Code.{Code}
-use Rattle.om_emit.specs.GraphCode.{IsCodeOf}
 use Rattle.om_event.specs.Events.{Events, Legs, at_end, events_of}
 use Rattle.om_event.specs.declared.kind.WaveKind.{WaveKind}
 use Rattle.om_program_text.specs.ProgramText.{program_text}
@@ -19,7 +18,7 @@ use Rattle.om_ring.specs.Members.{In}
 use Rattle.om_listing.specs.Listing.{listing}
 use Rattle.om_top.specs.Causes.{AreAccepted, EventsCause, HasDiagram, ProgramEventsCause, RefusesEvents}
 use Rattle.om_top.specs.CheckRan.{check_text}
-use Rattle.om_top.specs.Complete.{CheckIsComplete, EvalCompletes, RunCompletes, CompileIsComplete, EvalIsComplete, GraphIsComplete, RunIsComplete, SampleIsComplete}
+use Rattle.om_top.specs.Complete.{CheckIsComplete, EvalCompletes, RunCompletes, EvalIsComplete, RunIsComplete, SampleIsComplete, WriteIsComplete}
 use Rattle.om_top.specs.EvalRan.{EvalRan, Evaluates, OwesAnswer, process_kinds}
 use Rattle.om_top.specs.Loads.{IsGraphOf, IsProgramFile}
 use Rattle.om_top.specs.Message.{status_of}
@@ -27,6 +26,9 @@ use Rattle.om_top.specs.Outside.{Outside, Side, Failed, Gained, Gave, IsDone, Is
 use Rattle.om_top.specs.Refusals.{WithGraph, WithModel, WithProcess}
 use Rattle.om_top.specs.RunRan.{OwesMeaning, RunRan, RunsCode}
 use Rattle.om_top.specs.Streamed.{GainedLines, HasNoAmplitude, IsWhole, Streamed, UnlessNone, ended_by, kinds_of}
+use Rattle.om_top.specs.WriteRan.{WritesNamed}
+use Rattle.om_top.specs.declared.command.Written.{Written}
+use Rattle.om_top.specs.declared.command.Written.TheVariants.{Program, Listing}
 use Rattle.om_top.specs.declared.faults.event.EventFault.{EventFault}
 use Rattle.om_top.specs.declared.faults.event.EventFault.TheVariants as fault
 use Rattle.om_top.specs.declared.ending.Ending.{Ending}
@@ -101,6 +103,10 @@ text_written : (out : Side) (text : List ℕ) (e : Ending) → ¬ Failed out →
 text_written out text Done nw w = (refl, w)
 text_written out text OutFault nw w = absurd (nw w.0)
 text_written out text e nw w = absurd w
+
+all_written : (written : Written) (m : Model) (p : Process) (g : Graph) (out : Side) (e : Ending) → ¬ Failed out → WritesNamed written m p g out e → (e ≡ Done) × WritesNamed written m p g out Done
+all_written Program m p g out e nw (is, c, code, range, w) = (let d = text_written out (program_text c) e nw w in (d.0, (is, c, code, range, d.1)))
+all_written Listing m p g out e nw w = text_written out (listing m g) e nw w
 
 some_left : {A : Type 0} (xs : List A) → xs ≢ [] → (input out : Side) (streamed : Ending → Type 0) (e : Ending) → UnlessNone xs input out streamed e → streamed e
 some_left [] some input out streamed e h = absurd (some refl)
@@ -207,18 +213,11 @@ module _ {E : Type 0} (o : Ops E) (show : E → List ℕ) where
     | inr w ↦ inl (text_written x.out (check_text m) e nw w)
   ]
 
-  pub compile_is_complete : CompileIsComplete o show
-  compile_is_complete x e name text file m p ran told accepted nf nw =
-      elim (reached x e name text file m p told accepted nf (IsUntouched x.out) (λ m p g e. (c : Code) × IsCodeOf m p g c × Writes x.out (program_text c) e) ran.1) [
+  pub write_is_complete : WriteIsComplete o show
+  write_is_complete x e written name text file m p ran told accepted nf nw =
+      elim (reached x e name text file m p told accepted nf (IsUntouched x.out) (λ m p g. WritesNamed written m p g x.out) ran.1) [
         | inl none ↦ inr none
-        | inr h ↦ (let w = text_written x.out (program_text h.2.0) e nw h.2.2 in inl (w.0, (h.0, h.1, h.2.0, h.2.1, w.1)))
-      ]
-
-  pub graph_is_complete : GraphIsComplete o show
-  graph_is_complete x e name text file m p ran told accepted nf nw =
-      elim (reached x e name text file m p told accepted nf (IsUntouched x.out) (λ m p g. Writes x.out (listing m g)) ran.1) [
-        | inl none ↦ inr none
-        | inr h ↦ (let w = text_written x.out (listing m h.0) e nw h.2 in inl (w.0, (h.0, h.1, w.1)))
+        | inr h ↦ (let w = all_written written m p h.0 x.out e nw h.2 in inl (w.0, (h.0, h.1, w.1)))
       ]
 
   pub sample_is_complete : SampleIsComplete o show

@@ -4,21 +4,22 @@ use Rattle.om_ring.specs.Ops.{Ops}
 use Rattle.om_model.specs.declared.model.Model.{Model}
 use Rattle.om_model.specs.declared.process.Process.{Process}
 use Rattle.om_graph.specs.declared.Graph.{Graph}
-use Rattle.om_code.specs.declared.code.Code.{Code}
 use Rattle.om_event.specs.Events.{Legs}
 use Rattle.om_event.specs.declared.kind.WaveKind.{WaveKind}
-use Rattle.om_emit.specs.GraphCode.{IsCodeOf}
 use Rattle.om_program_text.specs.ProgramText.{program_text}
 use Rattle.om_listing.specs.Listing.{listing}
 use Rattle.om_top.specs.Causes.{is_quiet, model_name, process_text}
 use Rattle.om_top.specs.CheckRan.{check_text}
-use Rattle.om_top.specs.Command.{Command, check, eval, compile, run, graph, sample}
+use Rattle.om_top.specs.Command.{Command, check, eval, write, run, sample}
 use Rattle.om_top.specs.EvalRan.{Evaluates, OwesAnswer, process_kinds}
 use Rattle.om_top.specs.Message.{status_of}
 use Rattle.om_top.specs.Outside.{Outside, Side, IsUntouched, Writes}
 use Rattle.om_top.specs.Ran.{Ran}
 use Rattle.om_top.specs.Refusals.{WithModel, WithProcess, WithGraph}
 use Rattle.om_top.specs.Streamed.{HasNoAmplitude, Streamed, UnlessNone}
+use Rattle.om_top.specs.WriteRan.{WritesNamed}
+use Rattle.om_top.specs.declared.command.Written.{Written}
+use Rattle.om_top.specs.declared.command.Written.TheVariants.{Program, Listing}
 use Rattle.om_top.specs.declared.ending.Ending.{Ending}
 use Rattle.om_top.specs.declared.ending.Ending.TheVariants.{Done, ProcessFault, GraphTooLarge, EventFault, InputFault, OutFault}
 
@@ -50,6 +51,14 @@ pub own_writes : (out : Side) (text : List ℕ) (e : Ending) → Writes out text
 own_writes out text Done w = refl
 own_writes out text OutFault w = refl
 own_writes out text e w = absurd w
+
+-- of a process some text was written
+pub written_text : (written : Written) (m : Model) (p : Process) (g : Graph) (out : Side) (e : Ending) → WritesNamed written m p g out e → (text : List ℕ) × Writes out text e
+written_text Program m p g out e h = (program_text h.1, h.4)
+written_text Listing m p g out e h = (listing m g, h)
+
+pub own_written : (written : Written) (m : Model) (p : Process) (g : Graph) (out : Side) (e : Ending) → WritesNamed written m p g out e → is_quiet e ≡ false
+own_written written m p g out e h = let w = written_text written m p g out e h in own_writes out w.0 e w.1
 
 -- events were answered
 pub own_streamed : {E : Type 0} (Owes : ℕ → Legs E → List ℕ → Type 0) (o : Ops E) (kinds : List WaveKind) (input out : Side) (e : Ending) → Streamed Owes o kinds input out e → is_quiet e ≡ false
@@ -98,20 +107,12 @@ module _ {E : Type 0} (o : Ops E) (show : E → List ℕ) where
         own = λ m p g h. own_evaluates m p x.input x.out e h;
         ran = rw p at (rw q at ran);
       }
-  by_graph (compile model process) x e name text ran n t =
+  by_graph (write written model process) x e name text ran n t =
       let p : model ≡ name = cc in let q : process ≡ text = cc in
       record {
         quiet = IsUntouched x.out;
-        rest = λ m p g e. (c : Code) × IsCodeOf m p g c × Writes x.out (program_text c) e;
-        own = λ m p g h. own_writes x.out (program_text h.0) e h.2;
-        ran = rw p at (rw q at ran.1);
-      }
-  by_graph (graph model process) x e name text ran n t =
-      let p : model ≡ name = cc in let q : process ≡ text = cc in
-      record {
-        quiet = IsUntouched x.out;
-        rest = λ m p g e. Writes x.out (listing m g) e;
-        own = λ m p g h. own_writes x.out (listing m g) e h;
+        rest = λ m p g. WritesNamed written m p g x.out;
+        own = λ m p g h. own_written written m p g x.out e h;
         ran = rw p at (rw q at ran.1);
       }
 
@@ -132,5 +133,4 @@ module _ {E : Type 0} (o : Ops E) (show : E → List ℕ) where
       let p : model ≡ name = cc in
       record { quiet = IsUntouched x.out; rest = λ m e. Writes x.out (check_text m) e; other = λ m h. other_own e 3 not_three (own_writes x.out (check_text m) e h); ran = rw p at ran.1 }
   by_model (eval model process) x e name ran n = graph_model name process x e (by_graph (eval model process) x e name process ran n refl)
-  by_model (compile model process) x e name ran n = graph_model name process x e (by_graph (compile model process) x e name process ran n refl)
-  by_model (graph model process) x e name ran n = graph_model name process x e (by_graph (graph model process) x e name process ran n refl)
+  by_model (write written model process) x e name ran n = graph_model name process x e (by_graph (write written model process) x e name process ran n refl)

@@ -6,18 +6,19 @@ use Rattle.om_model.specs.declared.model.Model.{Model}
 use Rattle.om_model.specs.declared.process.Process.{Process}
 use Rattle.om_colour.specs.declared.Flow.{Flow}
 use Rattle.om_top.specs.Causes.{FaultCauses, FaultsHaveCauses, HasDiagram}
-use Rattle.om_top.specs.Command.{check, eval, compile, run, graph, sample}
+use Rattle.om_top.specs.Command.{check, eval, write, run, sample}
 use Rattle.om_top.specs.CheckRan.{CheckRan}
-use Rattle.om_top.specs.CompileRan.{CompileRan}
 use Rattle.om_top.specs.EvalRan.{EvalRan, Evaluates}
-use Rattle.om_top.specs.GraphRan.{GraphRan}
 use Rattle.om_top.specs.SampleRan.{SampleRan}
 use Rattle.om_top.specs.Outside.{Outside, Side, Failed}
 use Rattle.om_top.specs.Ran.{Ran}
 use Rattle.om_top.specs.RunRan.{OwesMeaning, RunRan}
 use Rattle.om_top.specs.Streamed.{Streamed, UnlessNone, kinds_of}
+use Rattle.om_top.specs.WriteRan.{WriteRan}
+use Rattle.om_top.specs.declared.command.Written.{Written}
 use Rattle.om_top.specs.declared.ending.Ending.{Ending}
 use Rattle.om_top.specs.declared.ending.Ending.TheVariants.{FileFault, InputFault, OutFault}
+use Rattle.om_top.proofs.Endings.{written_text}
 
 module _ {E : Type 0} (o : Ops E) (show : E → List ℕ) where
   -- the input failed where there was a diagram
@@ -56,22 +57,13 @@ module _ {E : Type 0} (o : Ops E) (show : E → List ℕ) where
         out = λ q. (let r = at OutFault q in (out_failed r.0 r.2.0 x.input x.out r.2.2.2, (r.0, r.2.0, r.2.2.0, r.1, r.2.1, r.2.2.1)));
       }
 
-  faults_of_compile : (name text : List ℕ) (x : Outside) (e : Ending) → Ran o show (Some (compile name text)) x e → FaultCauses o show (compile name text) x e
-  faults_of_compile name text x e ran =
-      let at : (y : Ending) → e ≡ y → CompileRan o (x.file name) text x.out y = λ y q. subst (λ (z : Ending). CompileRan o (x.file name) text x.out z) q ran.1 in
+  faults_of_write : (written : Written) (name text : List ℕ) (x : Outside) (e : Ending) → Ran o show (Some (write written name text)) x e → FaultCauses o show (write written name text) x e
+  faults_of_write written name text x e ran =
+      let at : (y : Ending) → e ≡ y → WriteRan written o (x.file name) text x.out y = λ y q. subst (λ (z : Ending). WriteRan written o (x.file name) text x.out z) q ran.1 in
       record {
         file = λ q. (name, refl, (at FileFault q).0);
-        input = λ q. absurd (at InputFault q).2.2.2.2;
-        out = λ q. (let r = at OutFault q in (r.2.2.2.2.0, (r.0, r.2.0, r.2.2.0, r.1, r.2.1, r.2.2.1)));
-      }
-
-  faults_of_graph : (name text : List ℕ) (x : Outside) (e : Ending) → Ran o show (Some (graph name text)) x e → FaultCauses o show (graph name text) x e
-  faults_of_graph name text x e ran =
-      let at : (y : Ending) → e ≡ y → GraphRan o (x.file name) text x.out y = λ y q. subst (λ (z : Ending). GraphRan o (x.file name) text x.out z) q ran.1 in
-      record {
-        file = λ q. (name, refl, (at FileFault q).0);
-        input = λ q. absurd (at InputFault q).2.2.2;
-        out = λ q. (let r = at OutFault q in (r.2.2.2.0, (r.0, r.2.0, r.2.2.0, r.1, r.2.1, r.2.2.1)));
+        input = λ q. (let r = at InputFault q in absurd (written_text written r.0 r.2.0 r.2.2.0 x.out InputFault r.2.2.2).1);
+        out = λ q. (let r = at OutFault q in ((written_text written r.0 r.2.0 r.2.2.0 x.out OutFault r.2.2.2).1.0, (r.0, r.2.0, r.2.2.0, r.1, r.2.1, r.2.2.1)));
       }
 
   faults_of_run : (name : List ℕ) (x : Outside) (e : Ending) → Ran o show (Some (run name)) x e → FaultCauses o show (run name) x e
@@ -102,7 +94,6 @@ module _ {E : Type 0} (o : Ops E) (show : E → List ℕ) where
   pub faults_have_causes : FaultsHaveCauses o show
   faults_have_causes (check name) x e ran = faults_of_check name x e ran
   faults_have_causes (eval name text) x e ran = faults_of_eval name text x e ran
-  faults_have_causes (compile name text) x e ran = faults_of_compile name text x e ran
-  faults_have_causes (graph name text) x e ran = faults_of_graph name text x e ran
+  faults_have_causes (write written name text) x e ran = faults_of_write written name text x e ran
   faults_have_causes (run name) x e ran = faults_of_run name x e ran
   faults_have_causes (sample seed legs) x e ran = faults_of_sample seed legs x e ran

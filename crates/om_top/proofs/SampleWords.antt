@@ -7,7 +7,8 @@ use Rattle.om_ring.specs.Spelt.{decimal_below}
 use Rattle.om_ring.proofs.SpeltLemmas.{spelt_found}
 use Rattle.om_legs.specs.declared.leg_set.TheConstants.{MOST_LEGS}
 use Rattle.om_model.specs.declared.limits.TheConstants.{FEWEST_LEGS}
-use Rattle.om_top.specs.Command.{Command, check, eval, compile, run, graph, sample, command_of, sample_by}
+use Rattle.om_top.specs.Command.{Command, check, eval, write, run, sample, command_of, sample_by}
+use Rattle.om_top.specs.declared.command.Written.TheVariants.{Program, Listing}
 
 no_file : (file : List ℕ) (seed legs : ℕ) (a b : Bool) → (if a then Some (check file) else (if b then Some (run file) else None)) ≡ Some (sample seed legs) → ⊥
 no_file file seed legs true b e = cc
@@ -15,7 +16,7 @@ no_file file seed legs false true e = cc
 no_file file seed legs false false e = cc
 
 by_two : (first second : List ℕ) (seed legs : ℕ) (x : Option Command) (a b c d : Bool)
-    → (if a then Some (eval first second) else (if b then Some (compile first second) else (if c then Some (graph first second) else (if d then x else None)))) ≡ Some (sample seed legs)
+    → (if a then Some (eval first second) else (if b then Some (write Program first second) else (if c then Some (write Listing first second) else (if d then x else None)))) ≡ Some (sample seed legs)
     → x ≡ Some (sample seed legs)
 by_two first second seed legs x true b c d e = absurd (cc)
 by_two first second seed legs x false true c d e = absurd (cc)

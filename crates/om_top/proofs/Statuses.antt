@@ -6,22 +6,20 @@ use Rattle.om_model.specs.declared.model.Model.{Model}
 use Rattle.om_model.specs.declared.process.Process.{Process}
 use Rattle.om_graph.specs.declared.Graph.{Graph}
 use Rattle.om_code.specs.declared.code.Code.{Code}
-use Rattle.om_emit.specs.GraphCode.{IsCodeOf}
-use Rattle.om_listing.specs.Listing.{listing}
-use Rattle.om_program_text.specs.ProgramText.{program_text}
 use Rattle.om_top.specs.Causes.{CommandEndings, is_quiet}
 use Rattle.om_top.specs.CheckRan.{check_text}
-use Rattle.om_top.specs.Command.{check, eval, compile, run, graph, sample}
+use Rattle.om_top.specs.Command.{check, eval, write, run, sample}
 use Rattle.om_top.specs.EvalRan.{Evaluates}
 use Rattle.om_top.specs.Message.{status_of}
 use Rattle.om_top.specs.Outside.{Side, IsUntouched, Writes}
 use Rattle.om_top.specs.Refusals.{WithModel, WithProcess, WithGraph, WithProgram}
 use Rattle.om_top.specs.RunRan.{RunsCode}
 use Rattle.om_top.specs.SampleRan.{SampleRan}
+use Rattle.om_top.specs.WriteRan.{WritesNamed}
 use Rattle.om_top.specs.declared.ending.Ending.{Ending}
 use Rattle.om_top.specs.declared.ending.Ending.TheVariants.{Done, ModelTooLong, ModelFault, ProcessFault, GraphTooLarge, ProgramTooLong, ProgramFault, EventFault, FileFault, InputFault, OutFault, NoMemory}
 use Rattle.om_top.proofs.CauseLemmas.{own_runs}
-use Rattle.om_top.proofs.Endings.{own_evaluates}
+use Rattle.om_top.proofs.Endings.{own_evaluates, written_text}
 
 own_eval : (e : Ending) → is_quiet e ≡ false → In (status_of e) (0 ∷ 3 ∷ 4 ∷ 6 ∷ 7 ∷ 8 ∷ 9 ∷ 10 ∷ [])
 own_eval Done h = inl refl
@@ -94,8 +92,7 @@ module _ {E : Type 0} (o : Ops E) (show : E → List ℕ) where
   command_endings (check name) x e ran = model_check o (x.file name) (IsUntouched x.out) (λ m. Writes x.out (check_text m)) e (λ m h. writes_check x.out (check_text m) e h) ran.1
   command_endings (eval name text) x e ran =
       graph_eval o (x.file name) text (IsUntouched x.input × IsUntouched x.out) (λ m p g. Evaluates o show m p x.input x.out) e (λ m p g h. own_eval e (own_evaluates o show m p x.input x.out e h)) ran
-  command_endings (compile name text) x e ran =
-      graph_writes o (x.file name) text (IsUntouched x.out) (λ m p g e. (c : Code) × IsCodeOf m p g c × Writes x.out (program_text c) e) e (λ m p g h. writes_writes x.out (program_text h.0) e h.2) ran.1
+  command_endings (write written name text) x e ran =
+      graph_writes o (x.file name) text (IsUntouched x.out) (λ m p g. WritesNamed written m p g x.out) e (λ m p g h. (let w = written_text written m p g x.out e h in writes_writes x.out w.0 e w.1)) ran.1
   command_endings (run name) x e ran = program_run o (x.file name) (IsUntouched x.input × IsUntouched x.out) (λ c. RunsCode o show c x.input x.out) e (λ c h. own_run e (own_runs o show c x.input x.out e h)) ran
-  command_endings (graph name text) x e ran = graph_writes o (x.file name) text (IsUntouched x.out) (λ m p g. Writes x.out (listing m g)) e (λ m p g h. writes_writes x.out (listing m g) e h) ran.1
   command_endings (sample seed legs) x e ran = of_sample seed legs x.out e ran.1

@@ -15,7 +15,7 @@ use Rattle.om_graph.specs.declared.Graph.{Graph}
 use Rattle.om_code.specs.declared.code.Code.{Code}
 use Rattle.om_event.specs.Events.{at_end, events_of}
 use Rattle.om_event.specs.declared.kind.WaveKind.{WaveKind}
-use Rattle.om_top.specs.Command.{Command, check, eval, compile, run, graph, sample}
+use Rattle.om_top.specs.Command.{Command, check, eval, write, run, sample}
 use Rattle.om_top.specs.EvalRan.{process_kinds}
 use Rattle.om_top.specs.Loads.{HoldsModel, HoldsProgram, IsGraphOf, IsModelFile, IsProgramFile, IsTooLarge, SaysFault, SaysProcess, SaysProgramFault}
 use Rattle.om_top.specs.Message.{status_of}
@@ -40,18 +40,16 @@ is_quiet _ = true
 abbrev pub model_name : Command → Option (List ℕ)
 model_name (check model) = Some model
 model_name (eval model process) = Some model
-model_name (compile model process) = Some model
+model_name (write written model process) = Some model
 model_name (run program) = None
-model_name (graph model process) = Some model
 model_name (sample seed legs) = None
 
 -- the text of a process of that model, where it goes on with one
 abbrev pub process_text : Command → Option (List ℕ)
 process_text (check model) = None
 process_text (eval model process) = Some process
-process_text (compile model process) = Some process
+process_text (write written model process) = Some process
 process_text (run program) = None
-process_text (graph model process) = Some process
 process_text (sample seed legs) = None
 
 -- the name of the file that it reads
@@ -63,9 +61,8 @@ file_name command = model_name command
 abbrev pub statuses_of : Command → List ℕ
 statuses_of (check model) = 0 ∷ 3 ∷ 7 ∷ 8 ∷ 10 ∷ []
 statuses_of (eval model process) = 0 ∷ 3 ∷ 4 ∷ 6 ∷ 7 ∷ 8 ∷ 9 ∷ 10 ∷ []
-statuses_of (compile model process) = 0 ∷ 3 ∷ 4 ∷ 7 ∷ 8 ∷ 9 ∷ 10 ∷ []
+statuses_of (write written model process) = 0 ∷ 3 ∷ 4 ∷ 7 ∷ 8 ∷ 9 ∷ 10 ∷ []
 statuses_of (run program) = 0 ∷ 5 ∷ 6 ∷ 7 ∷ 8 ∷ 10 ∷ []
-statuses_of (graph model process) = 0 ∷ 3 ∷ 4 ∷ 7 ∷ 8 ∷ 9 ∷ 10 ∷ []
 statuses_of (sample seed legs) = 0 ∷ 8 ∷ 10 ∷ []
 
 -- some diagram counts
@@ -104,9 +101,8 @@ module _ {E : Type 0} (o : Ops E) where
   abbrev pub IsAccepted : Command → Outside → Type 0
   IsAccepted (check name) x = (m : Model) × HoldsModel o (x.file name) m
   IsAccepted (eval name text) x = HasGraph name text x
-  IsAccepted (compile name text) x = HasGraph name text x
+  IsAccepted (write written name text) x = HasGraph name text x
   IsAccepted (run name) x = (c : Code) × HoldsProgram o (x.file name) c
-  IsAccepted (graph name text) x = HasGraph name text x
   IsAccepted (sample seed legs) x = Unit {0}
 
   -- nothing is refused, and there is a diagram or a flow

@@ -4,6 +4,8 @@ use Rattle.std.specs.Str.{bytes_eq}
 use Rattle.om_ring.specs.Spelt.{decimal_below}
 use Rattle.om_legs.specs.declared.leg_set.TheConstants.{MOST_LEGS}
 use Rattle.om_model.specs.declared.limits.TheConstants.{FEWEST_LEGS}
+use Rattle.om_top.specs.declared.command.Written.{Written}
+use Rattle.om_top.specs.declared.command.Written.TheVariants.{Program, Listing}
 
 -- a command
 pub data Command : Type 0 where
@@ -11,12 +13,10 @@ pub data Command : Type 0 where
   check : List ℕ → Command
   -- the answers to events: the name of the model's file and the text of the process
   eval : List ℕ → List ℕ → Command
-  -- the program of a process: the name of the model's file and the text of the process
-  compile : List ℕ → List ℕ → Command
+  -- the program of a process, or the listing of its graph: the name of the model's file and the text of the process
+  write : Written → List ℕ → List ℕ → Command
   -- the answers to events by a program: the name of its file
   run : List ℕ → Command
-  -- the graph of a process: the name of the model's file and the text of the process
-  graph : List ℕ → List ℕ → Command
   -- a sample: its seed and its number of legs
   sample : ℕ → ℕ → Command
 
@@ -40,8 +40,8 @@ command_of_file word file =
 abbrev pub command_of_two : List ℕ → List ℕ → List ℕ → Option Command
 command_of_two word first second =
     if bytes_eq word (codes "eval") then Some (eval first second)
-    else if bytes_eq word (codes "compile") then Some (compile first second)
-    else if bytes_eq word (codes "graph") then Some (graph first second)
+    else if bytes_eq word (codes "compile") then Some (write Program first second)
+    else if bytes_eq word (codes "graph") then Some (write Listing first second)
     else if bytes_eq word (codes "sample") then sample_of first second
     else None
 

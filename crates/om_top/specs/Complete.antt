@@ -6,23 +6,22 @@ use Rattle.om_model.specs.declared.model.Model.{Model}
 use Rattle.om_model.specs.declared.process.Process.{Process}
 use Rattle.om_graph.specs.declared.Graph.{Graph}
 use Rattle.om_code.specs.declared.code.Code.{Code}
-use Rattle.om_emit.specs.GraphCode.{IsCodeOf}
 use Rattle.om_event.specs.Events.{Legs, at_end, events_of}
 use Rattle.om_event.specs.declared.kind.WaveKind.{WaveKind}
-use Rattle.om_program_text.specs.ProgramText.{program_text}
-use Rattle.om_listing.specs.Listing.{listing}
 use Rattle.om_sample.specs.Sums.{IsSample}
 use Rattle.om_sample.specs.Texts.{sample_text}
 use Rattle.om_top.specs.AnswerText.{no_amplitude}
 use Rattle.om_top.specs.Causes.{AreAccepted, HasDiagram}
 use Rattle.om_top.specs.CheckRan.{check_text}
-use Rattle.om_top.specs.Command.{check, eval, compile, run, graph, sample}
+use Rattle.om_top.specs.Command.{check, eval, write, run, sample}
 use Rattle.om_top.specs.EvalRan.{OwesAnswer, process_kinds}
 use Rattle.om_top.specs.Loads.{IsGraphOf, IsModelFile, IsProgramFile}
 use Rattle.om_top.specs.Outside.{Outside, Failed, Gained, IsDone, IsUntouched}
 use Rattle.om_top.specs.Ran.{Ran}
 use Rattle.om_top.specs.RunRan.{OwesMeaning}
 use Rattle.om_top.specs.Streamed.{GainedLines, kinds_of}
+use Rattle.om_top.specs.WriteRan.{WritesNamed}
+use Rattle.om_top.specs.declared.command.Written.{Written}
 use Rattle.om_top.specs.declared.ending.Ending.{Ending}
 use Rattle.om_top.specs.declared.ending.Ending.TheVariants.{Done, NoMemory}
 
@@ -65,15 +64,10 @@ module _ {E : Type 0} (o : Ops E) (show : E → List ℕ) where
   CheckIsComplete = (x : Outside) (e : Ending) (name file : List ℕ) (m : Model) → Ran o show (Some (check name)) x e
       → (x.file name).before ≡ Some file → IsModelFile o file m → ¬ Failed (x.file name) → ¬ Failed x.out → DoneOr (Gained x.out (check_text m)) e
 
-  abbrev pub CompileIsComplete : Type 0
-  CompileIsComplete = (x : Outside) (e : Ending) (name text file : List ℕ) (m : Model) (p : Process) → Ran o show (Some (compile name text)) x e
+  abbrev pub WriteIsComplete : Type 0
+  WriteIsComplete = (x : Outside) (e : Ending) (written : Written) (name text file : List ℕ) (m : Model) (p : Process) → Ran o show (Some (write written name text)) x e
       → (x.file name).before ≡ Some file → AreAccepted o file text m p → ¬ Failed (x.file name) → ¬ Failed x.out
-      → DoneOr ((g : Graph) × IsGraphOf m p g × (c : Code) × IsCodeOf m p g c × Gained x.out (program_text c)) e
-
-  abbrev pub GraphIsComplete : Type 0
-  GraphIsComplete = (x : Outside) (e : Ending) (name text file : List ℕ) (m : Model) (p : Process) → Ran o show (Some (graph name text)) x e
-      → (x.file name).before ≡ Some file → AreAccepted o file text m p → ¬ Failed (x.file name) → ¬ Failed x.out
-      → DoneOr ((g : Graph) × IsGraphOf m p g × Gained x.out (listing m g)) e
+      → DoneOr ((g : Graph) × IsGraphOf m p g × WritesNamed written m p g x.out Done) e
 
   abbrev pub SampleIsComplete : Type 0
   SampleIsComplete = (x : Outside) (e : Ending) (seed legs : ℕ) → Ran o show (Some (sample seed legs)) x e → ¬ Failed x.out

@@ -14,7 +14,7 @@ use Rattle.om_event.specs.Events.{Ending as Ended, at_end, bad, too_many, events
 use Rattle.om_event.specs.declared.kind.WaveKind.{WaveKind}
 use Rattle.om_sample.specs.Model.{sample_model, sample_process}
 use Rattle.om_sample.specs.declared.limits.TheConstants.{SAMPLE_EVENTS}
-use Rattle.om_top.specs.Command.{Command, check, eval, compile, run, graph, sample}
+use Rattle.om_top.specs.Command.{Command, check, eval, write, run, sample}
 use Rattle.om_top.specs.Loads.{IsGraphOf, IsModelFile, IsProgramFile, SaysProcess}
 use Rattle.om_top.specs.Outside.{Outside, Side, Gave, Holds}
 use Rattle.om_machine.specs.Machines.{LoadedCode}
@@ -119,9 +119,8 @@ module _ {E : Type 0} (o : Ops E) where
   abbrev pub CommandMayCall : Command → Outside → ℕ → Type 0
   CommandMayCall (check name) x n = FileMayCall (x.file name) n
   CommandMayCall (eval name text) x n = EvalMayCall (x.file name) text x.input n
-  CommandMayCall (compile name text) x n = FileMayCall (x.file name) n
+  CommandMayCall (write written name text) x n = FileMayCall (x.file name) n
   CommandMayCall (run name) x n = RunMayCall (x.file name) x.input n
-  CommandMayCall (graph name text) x n = FileMayCall (x.file name) n
   CommandMayCall (sample seed legs) x n = SampleMayCall legs n
 
   -- a run makes so many calls at most

@@ -11,8 +11,7 @@ pub mod Streamed
 pub mod CheckRan
 pub mod EvalRan
 pub mod RunRan
-pub mod CompileRan
-pub mod GraphRan
+pub mod WriteRan
 pub mod SampleRan
 pub mod Ran
 pub mod Cost

@@ -2,13 +2,12 @@
 use Rattle.std.specs.Prelude.{ℕ, List, Option, Some, None}
 use Rattle.om_ring.specs.Ops.{Ops}
 use Rattle.om_top.specs.CheckRan.{CheckRan}
-use Rattle.om_top.specs.Command.{Command, check, eval, compile, run, graph, sample}
-use Rattle.om_top.specs.CompileRan.{CompileRan}
+use Rattle.om_top.specs.Command.{Command, check, eval, write, run, sample}
 use Rattle.om_top.specs.EvalRan.{EvalRan}
-use Rattle.om_top.specs.GraphRan.{GraphRan}
 use Rattle.om_top.specs.Outside.{Outside, IsQuiet, IsUntouched}
 use Rattle.om_top.specs.RunRan.{RunRan}
 use Rattle.om_top.specs.SampleRan.{SampleRan}
+use Rattle.om_top.specs.WriteRan.{WriteRan}
 use Rattle.om_top.specs.declared.ending.Ending.{Ending}
 use Rattle.om_top.specs.declared.ending.Ending.TheVariants.{Usage}
 
@@ -17,9 +16,8 @@ module _ {E : Type 0} (o : Ops E) (show : E → List ℕ) where
   abbrev pub CommandRan : Command → Outside → Ending → Type 0
   CommandRan (check model) x ending = IsUntouched x.input × CheckRan o (x.file model) x.out ending
   CommandRan (eval model process) x ending = EvalRan o show (x.file model) process x.input x.out ending
-  CommandRan (compile model process) x ending = IsUntouched x.input × CompileRan o (x.file model) process x.out ending
+  CommandRan (write written model process) x ending = IsUntouched x.input × WriteRan written o (x.file model) process x.out ending
   CommandRan (run program) x ending = RunRan o show (x.file program) x.input x.out ending
-  CommandRan (graph model process) x ending = IsUntouched x.input × GraphRan o (x.file model) process x.out ending
   CommandRan (sample seed legs) x ending = IsUntouched x.input × SampleRan o show seed legs x.out ending
 
   -- what the words ask for was done or refused

@@ -7,18 +7,25 @@ use om_legs::MOST_LEGS;
 use om_model::limits::FEWEST_LEGS;
 use om_ring::{read_decimal, read_decimal_below};
 
+/// What is written of a process.
+#[derive(Clone, Copy)]
+pub(crate) enum Written {
+    /// Its program.
+    Program,
+    /// The listing of its graph.
+    Listing,
+}
+
 /// A command with its words. Later commands are further variants.
 pub(crate) enum Command<'a> {
     /// Tells what stands in a model: the name of its file.
     Check(&'a str),
     /// Answers events: the name of the model's file and the text of the process.
     Eval(&'a str, &'a str),
-    /// Writes the program of a process: the name of the model's file and the text of the process.
-    Compile(&'a str, &'a str),
+    /// Writes what belongs to a process: the name of the model's file and the text of the process.
+    Write(Written, &'a str, &'a str),
     /// Answers events by a program: the name of its file.
     Run(&'a str),
-    /// Writes the graph of a process: the name of the model's file and the text of the process.
-    Graph(&'a str, &'a str),
     /// Evaluates a sample: its seed and its number of legs.
     Sample(u64, u8),
     /// The words have the form of no command.
@@ -56,9 +63,9 @@ fn command_of_two<'a>(word: &str, first: &'a str, second: &'a str) -> Command<'a
     if word == "eval" {
         Command::Eval(first, second)
     } else if word == "compile" {
-        Command::Compile(first, second)
+        Command::Write(Written::Program, first, second)
     } else if word == "graph" {
-        Command::Graph(first, second)
+        Command::Write(Written::Listing, first, second)
     } else if word == "sample" {
         sample_of(first.as_bytes(), second.as_bytes())
     } else {

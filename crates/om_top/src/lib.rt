@@ -9,6 +9,7 @@ mod faults;
 pub mod laws;
 mod load;
 mod message;
+mod range;
 mod stream;
 mod top;
 mod words;

@@ -9,7 +9,7 @@ ghost use Rattle.om_top.specs.Outside.{outside, side};
 ghost use Rattle.om_top.specs.Ran.{Ran};
 
 use crate::command::{Command, command_of};
-use crate::commands::{check, compile, eval, graph, run_program, sample};
+use crate::commands::{check, eval, run_program, sample, write_named};
 use crate::ending::{Ending, status};
 use crate::message::report;
 use om_io::{Folder, Sink, Source};
@@ -71,9 +71,10 @@ fn perform<R: Ring<Mark = L>, F: Folder, S: Source, O: Sink, L>(
     match command_of(words) {
         Command::Check(name) => check(alloc, ring, files, name, out, steps),
         Command::Eval(name, process) => eval(alloc, ring, files, name, process, input, out, steps),
-        Command::Compile(name, process) => compile(alloc, ring, files, name, process, out, steps),
+        Command::Write(written, name, process) => write_named(
+            alloc, ring, files, name, process, written, out, steps,
+        ),
         Command::Run(name) => run_program(alloc, ring, files, name, input, out, steps),
-        Command::Graph(name, process) => graph(alloc, ring, files, name, process, out, steps),
         Command::Sample(seed, legs) => sample(alloc, ring, seed, legs, out, steps),
         Command::Unknown => Ending::Usage,
     }

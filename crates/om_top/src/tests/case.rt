@@ -74,7 +74,15 @@ fn sink(alloc: Global, room: usize, fails: u64) -> Result<MemSink, Fail> {
     }
 }
 
-pub(crate) fn check_case(rt: &impl Abort, alloc: Global, case: &Case) -> Result<(), Fail> {
+/// Each case leaves what it has to.
+pub(crate) fn check_cases(rt: &impl Abort, alloc: Global, cases: &[Case]) -> Result<(), Fail> {
+    for case in cases {
+        check_case(rt, alloc, case)?;
+    }
+    Ok(())
+}
+
+fn check_case(rt: &impl Abort, alloc: Global, case: &Case) -> Result<(), Fail> {
     let file = match case.file {
         Some(text) => Some(repeated(alloc, text, case.copies, case.end)?),
         None => None,

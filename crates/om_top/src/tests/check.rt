@@ -1,5 +1,5 @@
 //! `check`, and the faults of models.
-use super::case::{Case, FOUR, check_case};
+use super::case::{Case, FOUR, check_cases};
 use super::models::{MASSIVE, QED, SPIM, VSS};
 use std::test::Fail;
 
@@ -121,8 +121,5 @@ const CASES: &[Case] = &[
 
 #[test]
 fn check(rt: HostRuntime) -> Result<(), Fail> {
-    for case in CASES {
-        check_case(&rt, rt.alloc(), case)?;
-    }
-    Ok(())
+    check_cases(&rt, rt.alloc(), CASES)
 }

@@ -1,5 +1,5 @@
 //! `compile`: the programs of processes.
-use super::case::{Case, FOUR, check_case, left_by};
+use super::case::{Case, FOUR, check_cases, left_by};
 use super::models::{CS, QED};
 use super::programs::{CURRENTS_IN_SLOTS, SCALARS_IN_SLOTS};
 use std::alloc::Global;
@@ -54,10 +54,7 @@ const CASES: &[Case] = &[
 
 #[test]
 fn compile(rt: HostRuntime) -> Result<(), Fail> {
-    for case in CASES {
-        check_case(&rt, rt.alloc(), case)?;
-    }
-    Ok(())
+    check_cases(&rt, rt.alloc(), CASES)
 }
 
 // Two electrons to three photons.

@@ -1,5 +1,5 @@
 //! `eval`: answers, and processes without any.
-use super::case::{Case, FOUR, check_case};
+use super::case::{Case, FOUR, check_cases};
 use super::models::{CS, PHI3M, PHI34, QCD, QED, SZ, YUK};
 use std::test::Fail;
 
@@ -118,10 +118,7 @@ const CASES: &[Case] = &[
 
 #[test]
 fn eval(rt: HostRuntime) -> Result<(), Fail> {
-    for case in CASES {
-        check_case(&rt, rt.alloc(), case)?;
-    }
-    Ok(())
+    check_cases(&rt, rt.alloc(), CASES)
 }
 
 const LARGE: &[Case] = &[
@@ -159,8 +156,5 @@ const LARGE: &[Case] = &[
 
 #[test]
 fn large_processes(rt: HostRuntime) -> Result<(), Fail> {
-    for case in LARGE {
-        check_case(&rt, rt.alloc(), case)?;
-    }
-    Ok(())
+    check_cases(&rt, rt.alloc(), LARGE)
 }

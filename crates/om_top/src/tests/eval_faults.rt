@@ -1,5 +1,5 @@
 //! `eval`: the faults of processes, events and the outside, and what stands after them.
-use super::case::{Case, FOUR, check_case};
+use super::case::{Case, FOUR, check_cases};
 use super::models::MASSIVE;
 use std::test::Fail;
 
@@ -153,8 +153,5 @@ const CASES: &[Case] = &[
 
 #[test]
 fn eval_faults(rt: HostRuntime) -> Result<(), Fail> {
-    for case in CASES {
-        check_case(&rt, rt.alloc(), case)?;
-    }
-    Ok(())
+    check_cases(&rt, rt.alloc(), CASES)
 }

@@ -1,6 +1,6 @@
 //! Gauge invariance, exactly: with the momentum of a photon or gluon in place of its wave function each flow is 0, with a generic one it isn't.
 //! Written by tools/gauge_cases.py; the numbers are those of another program.
-use super::case::{Case, FOUR, check_case};
+use super::case::{Case, FOUR, check_cases};
 use std::test::Fail;
 
 // The standard model, `models/sm.toml` in short.
@@ -82,8 +82,5 @@ const CASES: &[Case] = &[
 
 #[test]
 fn gauge_invariance_is_exact(rt: HostRuntime) -> Result<(), Fail> {
-    for case in CASES {
-        check_case(&rt, rt.alloc(), case)?;
-    }
-    Ok(())
+    check_cases(&rt, rt.alloc(), CASES)
 }

@@ -1,5 +1,5 @@
 //! `graph`: listings.
-use super::case::{Case, FOUR, check_case};
+use super::case::{Case, FOUR, check_cases};
 use super::models::{PHI3, QED};
 use std::test::Fail;
 
@@ -71,8 +71,5 @@ const CASES: &[Case] = &[
 
 #[test]
 fn graph(rt: HostRuntime) -> Result<(), Fail> {
-    for case in CASES {
-        check_case(&rt, rt.alloc(), case)?;
-    }
-    Ok(())
+    check_cases(&rt, rt.alloc(), CASES)
 }

@@ -1,5 +1,5 @@
 //! `run`: answers by a program.
-use super::case::{Case, FOUR, check_case};
+use super::case::{Case, FOUR, check_cases};
 use super::programs::{CURRENTS, CURRENTS_IN_SLOTS, NO_FLOW, SCALARS, SCALARS_IN_SLOTS};
 use std::test::Fail;
 
@@ -68,8 +68,5 @@ const CASES: &[Case] = &[
 
 #[test]
 fn run_program(rt: HostRuntime) -> Result<(), Fail> {
-    for case in CASES {
-        check_case(&rt, rt.alloc(), case)?;
-    }
-    Ok(())
+    check_cases(&rt, rt.alloc(), CASES)
 }

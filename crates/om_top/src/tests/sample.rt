@@ -1,5 +1,5 @@
 //! `sample`: its line, worked out apart.
-use super::case::{Case, FOUR, check_case};
+use super::case::{Case, FOUR, check_cases};
 use std::test::Fail;
 
 const SAMPLE: Case = Case {
@@ -44,8 +44,5 @@ const CASES: &[Case] = &[
 
 #[test]
 fn sample(rt: HostRuntime) -> Result<(), Fail> {
-    for case in CASES {
-        check_case(&rt, rt.alloc(), case)?;
-    }
-    Ok(())
+    check_cases(&rt, rt.alloc(), CASES)
 }

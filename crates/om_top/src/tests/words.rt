@@ -1,5 +1,5 @@
 //! Words that have the form of a command, and words that don't.
-use super::case::{Case, FOUR, USAGE, check_case};
+use super::case::{Case, FOUR, USAGE, check_cases};
 use std::test::Fail;
 
 const NO_USAGE: Case = Case {
@@ -61,8 +61,5 @@ const CASES: &[Case] = &[
 
 #[test]
 fn words(rt: HostRuntime) -> Result<(), Fail> {
-    for case in CASES {
-        check_case(&rt, rt.alloc(), case)?;
-    }
-    Ok(())
+    check_cases(&rt, rt.alloc(), CASES)
 }
