@@ -8,7 +8,7 @@ ghost use Rattle.om_graph.specs.Search.{interned, place};
 use crate::BuildFault;
 use crate::chosen::Chosen;
 use crate::closings::Closed;
-use crate::recent::{Recent, is_at, slot_of};
+use crate::recent::{Recent, is_at};
 use om_colour::Flow;
 use om_cons::Table;
 use om_cons::laws::identical_keys;
@@ -70,7 +70,7 @@ impl ClosedRows {
         if self.rows.reserve(1).is_err() {
             return Err(BuildFault::Memory);
         }
-        let slot = slot_of(one.flow);
+        let slot = self.recent.slot_of(one.flow);
         let near = self.recent.at(slot);
         let Ok(flow) = add_near(&mut self.flows, near, one.flow) else {
             return Err(BuildFault::Memory);
