@@ -138,10 +138,11 @@ CanJoinAt r ks v (Some f) =
     let slots = fused_slots r f v (union_of (sets_of ks)) ks in
     (c : ℕ) → c < r.scattering.theory.choices v → CanJoin (slot_partials (four_slots slots)) (r.choice v c) (hole_of slots)
 
--- it holds wherever these nodes meet
+-- P holds of nodes and each place where they meet
 abbrev pub MeetWell : Reaction → Bool → (List Key → Meeting → Type 0) → List Key → Type 0
 MeetWell r closing P ks = (m : Meeting) → IsMeeting r closing ks m → P ks m
 
+-- the colour lines fit wherever these nodes fuse
 abbrev pub CanMeet : Reaction → List Key → Type 0
 CanMeet r = MeetWell r false (λ ks m. CanJoinAt r ks m.vertex m.up)
 
@@ -160,6 +161,7 @@ CanMeetOver r ns set = (n : ℕ) (parts : List ℕ) → (n ≡ 2) ⊎ (n ≡ 3) 
 abbrev pub CanClose : Reaction → List Key → ℕ → Type 0
 CanClose r ks v = (c : ℕ) → c < r.scattering.theory.choices v → Fits (slot_partials (four_slots (closed_slots r v ks))) (r.choice v c) no_hole
 
+-- and wherever they close
 abbrev pub CanCloseAt : Reaction → List Key → Type 0
 CanCloseAt r = MeetWell r true (λ ks m. CanClose r ks m.vertex)
 

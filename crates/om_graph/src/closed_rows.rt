@@ -49,6 +49,7 @@ impl Model for ClosedRows {
 }
 
 impl ClosedRows {
+    /// None yet.
     pub(crate) fn new(alloc: Global) -> Result<ClosedRows, NoMemory>
         ensures { IfOk result (λ found. found ≡ []) }
     {
@@ -60,9 +61,10 @@ impl ClosedRows {
         })
     }
 
-    /// One more, up to the limit.
+    /// One more behind them. `TooLarge` where there are `limit` of them, `Memory` for want of memory; either leaves them as they were.
     pub(crate) fn push(&mut self, limit: usize, one: Closed) -> Result<(), BuildFault>
         ensures added { Adds limit self.old (closed_seen one ∷ []) self.new result }
+        ensures kept { OnErr result (self.new ≡ self.old) }
     {
         if self.rows.len() >= limit {
             return Err(BuildFault::TooLarge);
