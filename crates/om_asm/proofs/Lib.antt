@@ -1,5 +1,4 @@
 pub mod AllLines
-pub mod BranchEquality
 pub mod FewRows
 pub mod FirstFields
 pub mod FirstBadLine

@@ -1,4 +1,3 @@
-pub mod BranchLists
 pub mod Fields
 pub mod FirstBad
 pub mod Flows

@@ -13,3 +13,5 @@ pub mod Crossings
 pub mod ShareSums
 pub mod SplitFacts
 pub mod Few
+pub mod BranchEquality
+pub mod Marks

@@ -3,3 +3,4 @@ pub mod Splits
 pub mod Walks
 pub mod Crossings
 pub mod Branches
+pub mod BranchNodes

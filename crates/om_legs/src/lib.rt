@@ -1,6 +1,7 @@
 //! Sets of external legs, their splits into parts, and the parity of crossings.
 #![tactic(auto)]
 
+mod branch_nodes;
 mod branches;
 mod four_parts;
 pub mod laws;

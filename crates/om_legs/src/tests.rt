@@ -56,13 +56,14 @@ fn crossings_of_two_sets(rt: HostRuntime) {
 
 #[test]
 fn branches_compare(rt: HostRuntime) {
-    let pair = Branches {
-        count: 2,
-        nodes: [4, 9, 0, 0],
-    };
-    let triple = Branches {
-        count: 3,
-        nodes: [1, 2, 3, 0],
-    };
+    let pair = Branches::first_of(2, [4, 9, 6, 7]);
+    let triple = Branches::first_of(3, [1, 2, 3, 8]);
     assert!(rt; pair < triple && pair == pair);
+}
+
+#[test]
+fn nodes_are_marked(rt: HostRuntime) {
+    let mut marks = [0, 0, 0, 0, 0];
+    Branches::three(1, 4, 2).mark(&mut marks, 7);
+    assert!(rt; marks == [0, 7, 7, 0, 7]);
 }

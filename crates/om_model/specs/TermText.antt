@@ -1,5 +1,6 @@
 -- The words of a term: what it makes, its sign, vertex and choice, and the nodes that meet there.
-use Rattle.std.specs.Prelude.{ℕ, ◌+◌, Bool, true, false, List, ◌∷◌, map, flat_map, take, decimal, codes}
+use Rattle.std.specs.Prelude.{ℕ, ◌+◌, Bool, true, false, List, ◌∷◌, map, flat_map, decimal, codes}
+use Rattle.om_legs.specs.BranchNodes.{nodes_of}
 use Rattle.om_legs.specs.declared.branches.Branches.{Branches}
 
 -- a number that counts from 0 in a graph or a code and from 1 in a text
@@ -12,7 +13,7 @@ sign_word false = codes "+"
 
 -- the nodes that meet
 abbrev pub branch_words : Branches → List (List ℕ)
-branch_words b = map place_word (take b.count b.nodes)
+branch_words b = map place_word (nodes_of b)
 
 -- the choice counts from 0 in a text too
 abbrev pub term_words : ℕ → Bool → ℕ → ℕ → Branches → List (List ℕ)

@@ -68,7 +68,7 @@ fn push_branches(branches: &Branches, line: &mut Line)
     ensures text { line.new ≡ line.old ++ spaced (branch_words branches.now) }
     ensures short { length line.new ≤ length line.old + BRANCHES_BYTES }
 {
-    for node in &branches.nodes[..usize::from(branches.count)] {
+    for node in branches.as_slice() {
         line.push(b" ");
         push_place(*node, line);
     }
