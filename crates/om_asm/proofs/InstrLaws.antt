@@ -17,8 +17,8 @@ use Rattle.om_asm.specs.Lines.{word_by, no_more}
 use Rattle.om_ring.specs.OptionSteps.{◌>>=◌}
 use Rattle.om_asm.specs.Spelt.{place_of, leg_of}
 use Rattle.om_ring.specs.Spelt.{decimal_below}
-use Rattle.om_asm.specs.BranchLists.{two_nodes, three_nodes, four_nodes}
-use Rattle.om_asm.proofs.BranchEquality.{branches_same}
+use Rattle.om_legs.specs.BranchNodes.{two_nodes, three_nodes, four_nodes}
+use Rattle.om_legs.proofs.BranchEquality.{branches_same}
 use Rattle.om_asm.specs.Instrs.{sign_of, branches_of, third_of, fourth_of, joint_of, fuse_of, key_of, prop_of, load_of}
 use Rattle.om_asm.proofs.WordLaws.{bind_some, took, put, ended, place_law, number_law, leg_law, sign_law, IsLegNumber}
 

@@ -10,7 +10,7 @@ use Rattle.om_asm.specs.Lines.{word_by, no_more}
 use Rattle.om_ring.specs.OptionSteps.{◌>>=◌}
 use Rattle.om_asm.specs.Spelt.{place_of, leg_of}
 use Rattle.om_ring.specs.Spelt.{decimal_below}
-use Rattle.om_asm.specs.BranchLists.{two_nodes, three_nodes, four_nodes}
+use Rattle.om_legs.specs.BranchNodes.{two_nodes, three_nodes, four_nodes}
 
 abbrev pub sign_of : List ℕ → Option Bool
 sign_of word = if bytes_eq word (codes "-") then Some true else if bytes_eq word (codes "+") then Some false else None

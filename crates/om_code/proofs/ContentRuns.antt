@@ -19,7 +19,8 @@ use Rattle.om_code.specs.declared.slots.Entering.{Entering}
 use Rattle.om_code.specs.declared.slots.Held.{Held}
 use Rattle.om_code.specs.declared.slots.Phase.TheVariants.{Ready}
 use Rattle.om_code.specs.Slots as slots
-use Rattle.om_code.specs.Slots.{nothing, held_at, is_gathering, nodes_of, branches_held, fused, after, at_start, field_of_leg, slots_of_vertex}
+use Rattle.om_code.specs.Slots.{nothing, held_at, is_gathering, branches_held, fused, after, at_start, field_of_leg, slots_of_vertex}
+use Rattle.om_legs.specs.BranchNodes.{nodes_of}
 use Rattle.om_code.specs.Waves.{Incoming, plus_wave, signed_wave, wave_of, wave_of_leg, zero_wave}
 use Rattle.om_code.specs.Vertices.{branch, branches_of, entering_or_none, hole_by, hole_in, into_slots, reading_of_vertex, slots_with, structure_of, upwards}
 use Rattle.om_code.specs.Meaning as machine

@@ -17,7 +17,8 @@ use Rattle.om_code.specs.declared.code.Code.{Code}
 use Rattle.om_code.specs.declared.slots.Held.{Held}
 use Rattle.om_code.specs.declared.slots.Phase.TheVariants.{Gathering, Ready}
 use Rattle.om_code.specs.Rules.{size_of}
-use Rattle.om_code.specs.Slots.{nothing, fields_of, nodes_of, union_of, left_field, field_or_0, field_of_leg, slots_of_vertex}
+use Rattle.om_code.specs.Slots.{nothing, fields_of, union_of, left_field, field_or_0, field_of_leg, slots_of_vertex}
+use Rattle.om_legs.specs.BranchNodes.{nodes_of}
 use Rattle.om_code.specs.Waves.{Incoming, momentum_behind, plus_wave, signed_wave, wave_of, wave_of_leg, zero_wave}
 use Rattle.om_code.specs.Vertices.{hole_by, reading_of_vertex, sorted_into, structure_of}
 use Rattle.om_code.specs.Meaning.{factor_at, sums_of}

@@ -2,7 +2,7 @@
 use Rattle.std.specs.Prelude.{ℕ, Bool, List, [], ◌∷◌, map}
 use Rattle.om_code.specs.declared.code.Instr.{Instr}
 use Rattle.om_code.specs.declared.code.Instr.TheVariants.{Load, Fuse, Prop, Key}
-use Rattle.om_code.specs.Slots.{nodes_of}
+use Rattle.om_legs.specs.BranchNodes.{nodes_of}
 use Rattle.om_code.specs.Registers as step
 
 pub data Op : Type 0 where

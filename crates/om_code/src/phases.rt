@@ -5,7 +5,6 @@ ghost use Rattle.om_code.specs.Rules.{are_ready, has_phases, may_fuse, may_load}
 ghost use Rattle.om_code.specs.Slots.{held_at};
 
 use crate::slots::{branches_held, held_at};
-use crate::steps::nodes_of;
 use crate::{Code, Held, Instr};
 use om_legs::Branches;
 
@@ -15,7 +14,7 @@ pub(crate) fn has_phases(code: &Code, held: &[Held], instr: &Instr) -> bool
 {
     match instr {
         Instr::Load { to, .. } => may_load(code, held, *to),
-        Instr::Fuse { to, branches, .. } => may_fuse(code, held, *to, nodes_of(branches))
+        Instr::Fuse { to, branches, .. } => may_fuse(code, held, *to, branches.as_slice())
             && are_branches_ready(held, branches),
         Instr::Prop { of, .. } => held_at(held, *of).is_gathering(),
         Instr::Key { branches, .. } => are_branches_ready(held, branches),

@@ -36,7 +36,8 @@ use Rattle.om_model.proofs.TwoSided.{reversed_is}
 use Rattle.om_graph.specs.declared.Graph.{Graph}
 use Rattle.om_graph.specs.declared.Key.{Key}
 use Rattle.om_graph.specs.declared.Term.{Term}
-use Rattle.om_graph.specs.Possible.{nodes_at, unsigned}
+use Rattle.om_graph.specs.Possible.{unsigned}
+use Rattle.om_legs.specs.BranchNodes.{nodes_of}
 use Rattle.om_graph.specs.Reactions.{reaction_of}
 use Rattle.om_graph.specs.Vertices.{Fuses, is_outward}
 use Rattle.om_graph.proofs.KeysOfSides.{outward_of, side_of}
@@ -236,7 +237,7 @@ module _ {E : Type 0} (o : Ops E) (l : Laws o) (c : Code) (p : Process) (formed 
         let f = (in_filter (λ t. t.node == n) x g.terms).0 i in
         let met = (canonical.graph.terms (unsigned x)).0 (in_map unsigned x g.terms f.0) in
         let same : met.node ≡ k = same_Some met.node k (sym met.is_node ∙ ap (slice_get g.nodes) (eqb-true x.node n f.1) ∙ at) in
-        fused-is o l c p formed of g canonical code t e wave met.met.field x.vertex x.choice (nodes_at x.branches) met.branches k (at_of g.nodes (nodes_at x.branches) met.branches met.are_branches) (in_by_number g.nodes n k at)
+        fused-is o l c p formed of g canonical code t e wave met.met.field x.vertex x.choice (nodes_of x.branches) met.branches k (at_of g.nodes (nodes_of x.branches) met.branches met.are_branches) (in_by_number g.nodes n k at)
         (subst (Fuses (reaction_of c.model p) met.met.field x.vertex x.choice met.branches) same met.met.fuse) x.minus
 
     gathers : (n : ℕ) (k : Key) → slice_get g.nodes n ≡ Some k → is_inner k ≡ true

@@ -17,7 +17,8 @@ use Rattle.om_model.specs.Theory.{Scattering}
 use Rattle.om_model.specs.WellFormed.{IsWellFormed}
 use Rattle.om_graph.specs.declared.Graph.{Graph}
 use Rattle.om_graph.specs.declared.KeyTerm.{KeyTerm}
-use Rattle.om_graph.specs.Possible.{nodes_at, unsigned_key}
+use Rattle.om_graph.specs.Possible.{unsigned_key}
+use Rattle.om_legs.specs.BranchNodes.{nodes_of}
 use Rattle.om_graph.specs.Reactions.{reaction_of}
 use Rattle.om_ring.proofs.Members.{in_map}
 use Rattle.om_keystone.specs.Built.{keys_at_flow}
@@ -28,7 +29,6 @@ use Rattle.om_keystone.proofs.Numbers.{at_of}
 use Rattle.om_code.specs.declared.code.Code.{Code}
 use Rattle.om_code.specs.Contents.{Content, code_meaning, entering, made_number, summed_content}
 use Rattle.om_code.specs.Meaning.{sums_of}
-use Rattle.om_code.specs.Slots.{nodes_of}
 use Rattle.om_code.specs.Waves.{Incoming}
 use Rattle.om_machine.specs.Events.{IsMadeFor}
 use Rattle.om_emit.specs.EmittedAnswer.{with_sums}
@@ -107,7 +107,7 @@ module _ {E : Type 0} (o : Ops E) (l : Laws o) (c : Code) (p : Process) (formed 
   key-adds : (y : KeyTerm) → In y g.keys → made_number o c t e y.minus y.vertex y.choice (map entering (map held (nodes_of y.branches))) ≡ value y
   key-adds y i =
       let met = (canonical.graph.keys (unsigned_key y)).0 (in_map unsigned_key y g.keys i) in
-      closed-is o l c p formed of g canonical code t e wave y.vertex y.choice (nodes_at y.branches) met.branches met.flow (at_of g.nodes (nodes_at y.branches) met.branches met.are_branches) met.met.close y.minus
+      closed-is o l c p formed of g canonical code t e wave y.vertex y.choice (nodes_of y.branches) met.branches met.flow (at_of g.nodes (nodes_of y.branches) met.branches met.are_branches) met.met.close y.minus
 
   flows-from : (xs : List E) (m : ℕ) (us : List Flow) → length xs ≡ length us → ((j : ℕ) → j < length us → slice_index_or xs j o.zero ≡ sum_over o (keys_at_flow g.keys (m + j)) value)
       → with_sums us xs ≡ flow_values o scattering rules event g wave m us

@@ -12,7 +12,7 @@ use Rattle.om_graph.specs.declared.Graph.{Graph}
 use Rattle.om_graph.specs.declared.KeyTerm.{KeyTerm}
 use Rattle.om_code.specs.declared.code.Den.{Den}
 use Rattle.om_code.specs.declared.code.Instr.{Instr}
-use Rattle.om_code.specs.Slots.{nodes_of}
+use Rattle.om_legs.specs.BranchNodes.{nodes_of}
 use Rattle.om_code.specs.Spans.{is_named, width}
 use Rattle.om_code.specs.SlotPlans.{first_fit, slots_used}
 use Rattle.om_code.specs.Ops.{lines_of_code, Op, op_of, placed_op, named_in}

@@ -21,7 +21,8 @@ use Rattle.om_code.specs.Registers.{State, Step, written, joined, act, run, look
 use Rattle.om_code.specs.Rules as rules
 use Rattle.om_code.specs.Rules.{KeepsAll, KeepsRules, are_ready, are_in_order, adds_to, is_choice, is_den_of, is_slot, leaves_one, size_of}
 use Rattle.om_code.specs.Slots as slots
-use Rattle.om_code.specs.Slots.{nothing, held_at, is_gathering, nodes_of, branches_held, fused, after, field_of_leg, fields_of, union_of, left_field, field_or_0, slots_of_vertex}
+use Rattle.om_code.specs.Slots.{nothing, held_at, is_gathering, branches_held, fused, after, field_of_leg, fields_of, union_of, left_field, field_or_0, slots_of_vertex}
+use Rattle.om_legs.specs.BranchNodes.{nodes_of}
 use Rattle.om_code.proofs.PlacedRuns.{put_here, put_elsewhere}
 
 -- what is held later takes the place of what was held earlier

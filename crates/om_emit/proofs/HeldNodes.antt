@@ -20,7 +20,7 @@ use Rattle.om_code.specs.declared.slots.Phase.TheVariants.{Gathering, Ready}
 use Rattle.om_code.specs.Ops.{Op, load, fuse, prop, step_of}
 use Rattle.om_code.specs.Registers.{State, Step, written, joined, act, run, look, Found, adds, begins, found, finds}
 use Rattle.om_code.specs.Rules.{adds_to, is_den_of, size_of}
-use Rattle.om_code.specs.Slots.{nodes_of}
+use Rattle.om_legs.specs.BranchNodes.{nodes_of}
 use Rattle.om_code.proofs.PlacedRuns.{put_here, put_elsewhere}
 use Rattle.om_emit.specs.GraphCode.{fuse_op, key_op, node_ops, nodes_ops}
 use Rattle.om_emit.proofs.NodeCode.{run-append}

@@ -4,14 +4,11 @@ use Rattle.std.specs.List.{concat}
 use Rattle.std.proofs.lemmas.Bool.{cases_eq, cases_lt}
 use Rattle.std.proofs.lemmas.List.{get_or-set_same, get_or-set_other, length-set, length-replicate, take_all}
 use Rattle.om_ring.specs.Members.{In}
-use Rattle.om_emit.specs.Planning.{mark_each, last_uses}
+use Rattle.om_emit.specs.Planning.{last_uses}
+use Rattle.om_legs.proofs.Marks.{length-mark_each}
+use Rattle.om_legs.specs.BranchNodes.{mark_each}
 use Rattle.om_ring.proofs.Members.{in_either}
 use Rattle.om_code.proofs.SpanFacts.{Before, After, before_line, line_after, after_shrinks}
-
-length-mark_each : (i : ℕ) (last rs : List ℕ) → length (mark_each i last rs) ≡ length last
-unfolding mark_each
-length-mark_each i last [] = refl
-length-mark_each i last (r ∷ rs) = length-mark_each i (set last r i) rs ∙ length-set last r i
 
 -- a register that isn't marked keeps its mark
 mark_each-other : (i : ℕ) (last rs : List ℕ) (q : ℕ) → (In q rs → ⊥) → get_or (mark_each i last rs) q 0 ≡ get_or last q 0

@@ -12,7 +12,7 @@ use Rattle.om_graph.specs.declared.Graph.{Graph}
 use Rattle.om_code.specs.declared.code.Instr.{Instr}
 use Rattle.om_code.specs.declared.code.Instr.TheVariants.{Load, Fuse, Prop, Key as KeyOf}
 use Rattle.om_code.specs.Spans.{is_named}
-use Rattle.om_code.specs.Slots.{nodes_of}
+use Rattle.om_legs.specs.BranchNodes.{nodes_of}
 use Rattle.om_code.specs.Ops.{registers_of, lines_of_code, Op, load, fuse, prop, key, op_of, named_in, placed_op}
 use Rattle.om_keystone.specs.Built.{is_inner, terms_at, IsBelow, NodesAreBuilt, IsBuilt}
 use Rattle.om_emit.specs.GraphCode.{fuse_op, key_op, node_ops, nodes_ops, den_place, register_ops}

@@ -7,7 +7,7 @@ use Rattle.std.proofs.lemmas.Option.{get_or_from_slice_get}
 use Rattle.std.proofs.Math.ListN.{get_or-map}
 use Rattle.om_graph.proofs.AddedTerms.{set_next}
 use Rattle.om_graph.specs.declared.KeyTerm.{KeyTerm}
-use Rattle.om_code.specs.Slots.{nodes_of}
+use Rattle.om_legs.specs.BranchNodes.{nodes_of}
 use Rattle.om_code.specs.declared.code.Instr.{Instr}
 use Rattle.om_code.specs.Ops.{Op, op_of}
 
@@ -51,11 +51,3 @@ all_of_each : {A : Type 0} (P : A → Type 0) (xs : List A) → AllByRecursion P
 all_of_each P [] h k d l = absurd (omega (arith, l))
 all_of_each P (x ∷ xs) h zero d l = h.0
 all_of_each P (x ∷ xs) h (suc k) d l = all_of_each P xs h.1 k d (omega (arith, l))
-
--- the nodes of keystone terms have slots
-pub keys_placed : (n m : ℕ) (keys named : List KeyTerm) → AllByRecursion (λ (t : KeyTerm). AllByRecursion (λ b. b < n) (nodes_of t.branches)) keys → m ≡ n → named ≡ keys → All (λ (t : KeyTerm). All (λ r. r < m) (nodes_of t.branches)) named
-keys_placed n m keys named h e f =
-    let each : All (λ (t : KeyTerm). All (λ r. r < n) (nodes_of t.branches)) keys = λ k t l. all_of_each (λ r. r < n) (nodes_of (get_or keys k t).branches) (all_of_each (λ (t : KeyTerm). AllByRecursion (λ b. b < n) (nodes_of t.branches)) keys h k t l) in
-    let P : List KeyTerm → Type 0 = λ ts. All (λ (t : KeyTerm). All (λ r. r < n) (nodes_of t.branches)) ts in
-    let Q : ℕ → Type 0 = λ q. All (λ (t : KeyTerm). All (λ r. r < q) (nodes_of t.branches)) named in
-    subst Q (sym e) (subst P (sym f) each)

@@ -34,7 +34,8 @@ use Rattle.om_code.specs.Ops.{Op, load, fuse, prop, key, op_of, placed_op}
 use Rattle.om_code.specs.Plain.{IsPlace, IsPlainInstr}
 use Rattle.om_code.specs.Rules.{IsSettled, KeepsRules, is_choice, is_slot, names_all}
 use Rattle.om_code.specs.SlotPlans.{first_fit}
-use Rattle.om_code.specs.Slots.{held_before, nodes_of}
+use Rattle.om_code.specs.Slots.{held_before}
+use Rattle.om_legs.specs.BranchNodes.{nodes_of}
 use Rattle.om_code.proofs.Walk.{rules-by-walk}
 use Rattle.om_emit.specs.GraphCode.{IsCodeOf, den_place, fuse_op, key_op, node_ops, nodes_ops, register_lines, register_ops}
 use Rattle.om_emit.specs.Counts.{CountsNodes}

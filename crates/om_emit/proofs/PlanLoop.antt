@@ -7,7 +7,8 @@ use Rattle.om_ring.specs.Members.{In}
 use Rattle.om_code.specs.Spans.{is_named}
 use Rattle.om_code.specs.declared.code.Instr.{Instr}
 use Rattle.om_code.specs.Ops.{registers_of, lines_of_code}
-use Rattle.om_emit.specs.Planning.{Planning, give_slots, free_slots, mark_each, planned, last_uses}
+use Rattle.om_emit.specs.Planning.{Planning, give_slots, free_slots, planned, last_uses}
+use Rattle.om_legs.specs.BranchNodes.{mark_each}
 use Rattle.om_ring.proofs.Members.{in_from_member, member_from_in}
 use Rattle.om_code.proofs.SpanFacts.{line_after, after_named}
 use Rattle.om_emit.proofs.PlanningSteps.{line_at}

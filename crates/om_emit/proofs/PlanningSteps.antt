@@ -1,7 +1,8 @@
 -- One register more, in the walk that makes the plan.
 use Rattle.std.proofs.Common.{◌≡◌, ℕ, ◌+◌, ◌<◌, List, [], ◌∷◌, ◌++◌, get_or, take, length, refl, ap, sym, ◌∙◌, set, replicate, add-one, ap₂}
 use Rattle.std.proofs.lemmas.List.{take_more, get_or-map}
-use Rattle.om_emit.specs.Planning.{Planning, give_slot, give_slots, free_slot, free_slots, mark_each, last_uses}
+use Rattle.om_emit.specs.Planning.{Planning, give_slot, give_slots, free_slot, free_slots, last_uses}
+use Rattle.om_legs.specs.BranchNodes.{mark_each}
 use Rattle.om_code.specs.declared.code.Instr.{Instr}
 use Rattle.om_code.specs.Ops.{registers_of, lines_of_code}
 

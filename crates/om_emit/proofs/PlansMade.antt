@@ -6,13 +6,14 @@ use Rattle.std.proofs.lemmas.List.{length-map, length-append, get_or-append-add,
 use Rattle.std.proofs.Math.ListN as many
 use Rattle.om_ring.specs.Members.{In}
 use Rattle.om_graph.specs.declared.KeyTerm.{KeyTerm}
-use Rattle.om_code.specs.Slots.{nodes_of}
+use Rattle.om_legs.specs.BranchNodes.{nodes_of}
 use Rattle.om_code.specs.Spans.{is_named, width}
 use Rattle.om_code.specs.SlotPlans.{first_fit, slot_or_0}
 use Rattle.om_code.specs.declared.code.Instr.{Instr}
 use Rattle.om_code.specs.Ops.{registers_of, lines_of_code}
 use Rattle.om_emit.specs.GraphCode.{key_lines}
-use Rattle.om_emit.specs.Planning.{Planning, no_slots, mark_each, planned, last_uses}
+use Rattle.om_emit.specs.Planning.{Planning, no_slots, planned, last_uses}
+use Rattle.om_legs.specs.BranchNodes.{mark_each}
 use Rattle.om_emit.proofs.PlanLoop.{in_is, named_is, named_small, all_small, all_in, length_lines, last_uses_front}
 use Rattle.om_emit.proofs.PlanFronts.{in_lines, front_room, front_plan, front_count}
 use Rattle.om_emit.proofs.PlanMade.{count_small, slot-is, count-is}

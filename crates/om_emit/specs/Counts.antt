@@ -2,7 +2,7 @@
 use Rattle.std.specs.Prelude.{◌≡◌, length}
 use Rattle.om_code.specs.declared.code.Instr.{Instr}
 use Rattle.om_code.specs.declared.code.Instr.TheVariants.{Load, Fuse, Prop, Key}
-use Rattle.om_code.specs.Slots.{nodes_of}
+use Rattle.om_legs.specs.BranchNodes.{nodes_of}
 
 abbrev pub CountsNodes : Instr → Type 0
 CountsNodes (Load to leg) = Unit {0}

@@ -15,7 +15,7 @@ use Rattle.om_keystone.specs.Built.{is_inner, terms_at}
 use Rattle.om_code.specs.declared.code.Den.{Den}
 use Rattle.om_code.specs.declared.code.Code.{Code}
 use Rattle.om_code.specs.DenOrder.{den_order}
-use Rattle.om_code.specs.Slots.{nodes_of}
+use Rattle.om_legs.specs.BranchNodes.{nodes_of}
 use Rattle.om_code.specs.Ops.{Op, load, fuse, prop, key, op_of, named_in, placed_op}
 use Rattle.om_code.specs.SlotPlans.{first_fit, slots_used}
 

@@ -2,6 +2,7 @@
 use Rattle.std.specs.Prelude.{ℕ, zero, suc, ◌+◌, List, [], ◌∷◌, Option, Some, None, slice_index, slice_index_or, slice_set, replicate, if◌then◌else◌, ◌==◌}
 use Rattle.std.specs.Ordering.{nat_cmp}
 use Rattle.std.specs.BTreeSet.{insert_key}
+use Rattle.om_legs.specs.BranchNodes.{mark_each}
 use Rattle.om_emit.specs.declared.planner.Planner.{Planner}
 use Rattle.om_emit.specs.declared.slot_plan.SlotPlan.{SlotPlan}
 
@@ -53,12 +54,7 @@ unfoldable pub planned : List ℕ → List (List ℕ) → Planning → ℕ → P
 planned last lines p zero = p
 planned last lines p (suc n) = let line = slice_index_or lines n [] in free_slots last n (give_slots (planned last lines p n) line) line
 
--- instruction i is the last so far that names these registers
-unfoldable pub mark_each : ℕ → List ℕ → List ℕ → List ℕ
-mark_each i last [] = last
-mark_each i last (r ∷ rs) = mark_each i (slice_set last r i) rs
-
--- by register, the last of the first n instructions that names it
+-- by register, the last of the first n instructions that names it: each marks the registers that it names
 unfoldable pub last_uses : ℕ → List (List ℕ) → ℕ → List ℕ
 last_uses count lines zero = replicate count 0
 last_uses count lines (suc n) = mark_each n (last_uses count lines n) (slice_index_or lines n [])

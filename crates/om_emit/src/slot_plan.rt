@@ -3,14 +3,14 @@ ghost use Rattle.std.specs.Prelude.{◌≡◌, ◌+◌, ◌++◌, ◌^◌, ◌<�
 ghost use Rattle.om_code.specs.Spans.{is_named, width};
 ghost use Rattle.om_code.specs.SlotPlans.{first_fit, slot_or_0};
 ghost use Rattle.om_code.specs.Ops.{registers_of, lines_of_code};
-ghost use Rattle.om_code.specs.Slots.{nodes_of};
+ghost use Rattle.om_legs.specs.BranchNodes.{nodes_of};
 ghost use Rattle.om_emit.specs.GraphCode.{key_lines};
-ghost use Rattle.om_emit.specs.Planning.{slot_in_plan, no_slots, planned, mark_each, last_uses};
+ghost use Rattle.om_emit.specs.Planning.{slot_in_plan, no_slots, planned, last_uses};
+ghost use Rattle.om_legs.specs.BranchNodes.{mark_each};
 
 use crate::planner::Planner;
 use om_code::Instr;
 use om_graph::KeyTerm;
-use om_legs::Branches;
 use om_ring::NoMemory;
 use std::alloc::Global;
 use std::collections::BTreeSet;
@@ -35,14 +35,6 @@ impl SlotPlan {
         } else {
             0
         }
-    }
-
-    /// The slots, by register.
-    pub(crate) fn slots(&self) -> &[u32]
-        ensures same { result.now ≡ self.now.slots.items }
-        ensures length { length result.now ≡ vec_len self.now.slots }
-    {
-        self.slots.as_slice()
     }
 
     /// How many slots there are.
@@ -156,30 +148,10 @@ fn last_uses_with_keys(
 {
     let mut last = last_uses(alloc, instrs, registers)?;
     for (i, key) in keys.iter().enumerate() {
-        mark_branches(&mut last, &key.branches, instrs.len() + i);
+        key.branches
+            .mark(last.as_mut_slice(), instrs.len() + i);
     }
     Ok(last)
-}
-
-// Marks the nodes that meet, as `mark_each` does.
-#[inline(always)]
-#[tactic(auto, unfolding(crate::specs::Planning::mark_each))]
-fn mark_branches(last: &mut Vec<usize>, branches: &Branches, at: usize)
-    requires in_range { All (λ r. r < vec_len last.old) (nodes_of branches.now) }
-    ensures marked { last.new.items ≡ mark_each at last.old.items (nodes_of branches.now) }
-    ensures length { vec_len last.new ≡ vec_len last.old }
-{
-    let [first, second, third, fourth] = branches.nodes;
-    last[first as usize] = at;
-    last[second as usize] = at;
-    if branches.count == 2 {
-        return;
-    }
-    last[third as usize] = at;
-    if branches.count == 3 {
-        return;
-    }
-    last[fourth as usize] = at;
 }
 
 // By register, the last instruction that names it.

@@ -10,7 +10,8 @@ use Rattle.om_graph.specs.declared.closed_rows.Row.{Row}
 use Rattle.om_graph.specs.declared.fusions.Fused.{Fused}
 use Rattle.om_graph.specs.Graph.{Found, at_numbers}
 use Rattle.om_graph.specs.Loops.{chosen_nodes}
-use Rattle.om_graph.specs.Possible.{key_lt, nodes_at, state_of}
+use Rattle.om_graph.specs.Possible.{key_lt, state_of}
+use Rattle.om_legs.specs.BranchNodes.{nodes_of}
 use Rattle.om_graph.specs.Search.{State, add, interned, place}
 use Rattle.om_graph.specs.SetWalk.{HasFoundSign, HasKeySign, HasRowSign, HasTermSign, HaveSigns, KeysHaveSigns}
 use Rattle.om_graph.specs.Vertices.{Reaction, closed_minus, fused_minus}
@@ -25,7 +26,7 @@ module _ (r : Reaction) where
     node = h.node;
     branches = h.branches;
     is_node = get_left ns ys x.node h.node h.is_node;
-    are_branches = all_left ns ys (nodes_at x.branches) h.branches h.are_branches;
+    are_branches = all_left ns ys (nodes_of x.branches) h.branches h.are_branches;
     minus = h.minus;
   }
 
@@ -33,7 +34,7 @@ module _ (r : Reaction) where
   longer_found ns ms ys x e h = (h.0, ap (λ (ks : List Key). at_numbers ks (chosen_nodes x.branches)) e ∙ all_left ns ys (chosen_nodes x.branches) h.0 h.1, h.2)
 
   -- one term more
-  pub term_signs : (ns ms : List Key) (ts us : List Term) (t : Term) (x : Fused) → ms ≡ interned key_lt ns x.key → us ≡ ts ++ t ∷ [] → t.node ≡ place key_lt ms x.key → nodes_at t.branches ≡ chosen_nodes x.branches → t.vertex ≡ x.vertex → t.minus ≡ x.minus
+  pub term_signs : (ns ms : List Key) (ts us : List Term) (t : Term) (x : Fused) → ms ≡ interned key_lt ns x.key → us ≡ ts ++ t ∷ [] → t.node ≡ place key_lt ms x.key → nodes_of t.branches ≡ chosen_nodes x.branches → t.vertex ≡ x.vertex → t.minus ≡ x.minus
       → HaveSigns r ns ts → HasFoundSign r ns x → HaveSigns r ms us
   term_signs ns ms ts us t x e g n b v m old new y i = by (in_either y ts (t ∷ []) (subst (In y) g i))
     where
@@ -58,7 +59,7 @@ module _ (r : Reaction) where
       by (inr (inr f)) = absurd f
 
   -- one keystone term more
-  pub key_signs : (ns : List Key) (ys zs : List KeyTerm) (t : KeyTerm) (x : Row) → zs ≡ ys ++ t ∷ [] → nodes_at t.branches ≡ chosen_nodes x.branches → t.vertex ≡ x.vertex → t.minus ≡ x.minus
+  pub key_signs : (ns : List Key) (ys zs : List KeyTerm) (t : KeyTerm) (x : Row) → zs ≡ ys ++ t ∷ [] → nodes_of t.branches ≡ chosen_nodes x.branches → t.vertex ≡ x.vertex → t.minus ≡ x.minus
       → KeysHaveSigns r ns ys → HasRowSign r ns x → KeysHaveSigns r ns zs
   key_signs ns ys zs t x g b v m old new y i = by (in_either y ys (t ∷ []) (subst (In y) g i))
     where
@@ -84,7 +85,7 @@ still_longer ns ms ks ts us x h e =
 pub found_at : {A : Type 0} (P : A → Type 0) (xs : List A) (i : ℕ) (x : A) → All P xs → i < length xs → x ≡ get_or xs i x → P x
 found_at P xs i x a l e = subst P (sym e) (a i x l)
 
-pub keys_signed : (ys zs : List KeyTerm) (t : KeyTerm) (x : Row) (result : Result (Unit {0}) NoMemory) → OnOk result (zs ≡ ys ++ t ∷ []) → nodes_at t.branches ≡ chosen_nodes x.branches → t.vertex ≡ x.vertex → t.minus ≡ x.minus
+pub keys_signed : (ys zs : List KeyTerm) (t : KeyTerm) (x : Row) (result : Result (Unit {0}) NoMemory) → OnOk result (zs ≡ ys ++ t ∷ []) → nodes_of t.branches ≡ chosen_nodes x.branches → t.vertex ≡ x.vertex → t.minus ≡ x.minus
     → OnOk result ((r : Reaction) (ns : List Key) → KeysHaveSigns r ns ys → HasRowSign r ns x → KeysHaveSigns r ns zs)
 keys_signed ys zs t x (Ok u) g b v m = λ r ns old new. key_signs r ns ys zs t x g b v m old new
 keys_signed ys zs t x (Err f) g b v m = g

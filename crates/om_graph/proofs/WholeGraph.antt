@@ -13,7 +13,8 @@ use Rattle.om_graph.specs.declared.KeyTerm.{KeyTerm}
 use Rattle.om_graph.specs.declared.Term.{Term}
 use Rattle.om_graph.specs.declared.TheConstants.{MOST_TERMS}
 use Rattle.om_graph.specs.Graph.{Numbered, IsGraph, at_numbers}
-use Rattle.om_graph.specs.Possible.{IsPossible, flow_lt, key_lt, nodes_at, state_of, term_count, unsigned, unsigned_key}
+use Rattle.om_graph.specs.Possible.{IsPossible, flow_lt, key_lt, state_of, term_count, unsigned, unsigned_key}
+use Rattle.om_legs.specs.BranchNodes.{nodes_of}
 use Rattle.om_graph.specs.Search.{HasDone, State, flows_of, numbered, walk}
 use Rattle.om_graph.specs.SetSearch.{all_nodes, closings_of, leg_keys, leg_state, outward_sets, set_search}
 use Rattle.om_graph.specs.SetWalk.{CanCloseAll, CanWalk, HasClosed, HasKeySign, HasTermSign, HasWalked, HaveSigns, KeysHaveSigns}
@@ -68,7 +69,7 @@ module _ (r : Reaction) (kinds : Kinds) (is : IsReaction r kinds) where
           → IsGraph (fusion r) key_lt flow_lt ms ss zs us
       rw_graph ms ss zs us a b c d = rw (a, b, c, d) graph_of
 
-      by_term : (x : Term) (node : Key) (keys : List Key) → HasTermSign r ns x → slice_get ns x.node ≡ Some node → at_numbers ns (nodes_at x.branches) ≡ Some keys → x.minus ≡ fused_minus r node.field x.vertex node.legs keys
+      by_term : (x : Term) (node : Key) (keys : List Key) → HasTermSign r ns x → slice_get ns x.node ≡ Some node → at_numbers ns (nodes_of x.branches) ≡ Some keys → x.minus ≡ fused_minus r node.field x.vertex node.legs keys
       by_term x node keys s b d = s.minus ∙ ap₂ (λ (k : Key) (ks : List Key). fused_minus r k.field x.vertex k.legs ks) (same_Some s.node node (sym s.is_node ∙ b)) (same_Some s.branches keys (sym s.are_branches ∙ d))
 
 -- ---- a graph past the limit
@@ -115,7 +116,7 @@ few_are n (inl e) = (omega (arith, e), omega (arith, e))
 few_are n (inr (inl e)) = (omega (arith, e), omega (arith, e))
 few_are n (inr (inr e)) = (omega (arith, e), omega (arith, e))
 
-branches_are : (ns : List ℕ) → (length ns ≡ 2) ⊎ (length ns ≡ 3) ⊎ (length ns ≡ 4) → nodes_at (branches_of ns) ≡ ns
+branches_are : (ns : List ℕ) → (length ns ≡ 2) ⊎ (length ns ≡ 3) ⊎ (length ns ≡ 4) → nodes_of (branches_of ns) ≡ ns
 unfolding branches_of
 branches_are [] h = absurd (let l = (few_are 0 h).0 in omega (arith, l))
 branches_are (a ∷ []) h = absurd (let l = (few_are 1 h).0 in omega (arith, l))
@@ -151,7 +152,7 @@ module _ (r : Reaction) (kinds : Kinds) (is : IsReaction r kinds) where
   abbrev keys_all : List Numbered
   keys_all = numbered flow_lt (flows_of (fusion r) (set_search r) flow_lt (closings_of r (all_nodes r).nodes)) (closings_of r (all_nodes r).nodes)
 
-  few_branches : (x : Numbered) → In x (all_nodes r).terms → nodes_at (branches_of x.branches) ≡ x.branches
+  few_branches : (x : Numbered) → In x (all_nodes r).terms → nodes_of (branches_of x.branches) ≡ x.branches
   few_branches x i =
       let t = (graph.terms.members x).0 i in
       branches_are x.branches (by (length t.branches) (length x.branches) (length_at_numbers (all_nodes r).nodes x.branches t.branches t.are_branches) t.fuse.counted)
@@ -160,7 +161,7 @@ module _ (r : Reaction) (kinds : Kinds) (is : IsReaction r kinds) where
       by a b e (inl q) = inl (e ∙ q)
       by a b e (inr q) = inr (inl (e ∙ q))
 
-  few_parts : (y : Numbered) → In y keys_all → nodes_at (branches_of y.branches) ≡ y.branches
+  few_parts : (y : Numbered) → In y keys_all → nodes_of (branches_of y.branches) ≡ y.branches
   few_parts y i =
       let t = (graph.keys y).0 i in
       branches_are y.branches (by (length t.branches) (length y.branches) (length_at_numbers (all_nodes r).nodes y.branches t.branches t.are_branches) t.close.counted)

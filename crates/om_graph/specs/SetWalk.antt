@@ -14,7 +14,8 @@ use Rattle.om_graph.specs.declared.closed_rows.Row.{Row}
 use Rattle.om_graph.specs.Fusion.{IsNode}
 use Rattle.om_graph.specs.Graph.{at_numbers}
 use Rattle.om_graph.specs.Loops.{Signed, chosen_nodes}
-use Rattle.om_graph.specs.Possible.{flow_lt, nodes_at, state_of, unsigned_key}
+use Rattle.om_graph.specs.Possible.{flow_lt, state_of, unsigned_key}
+use Rattle.om_legs.specs.BranchNodes.{nodes_of}
 use Rattle.om_graph.specs.Search.{HasDone, Ready, walk, numbered, flows_of}
 use Rattle.om_graph.specs.SetSearch.{set_search, closings_of}
 use Rattle.om_graph.specs.TreeKeys.{IsReaction}
@@ -25,7 +26,7 @@ pub record HasTermSign (r : Reaction) (ns : List Key) (x : Term) : Type 0 where
   pub node : Key
   pub branches : List Key
   pub is_node : slice_get ns x.node ≡ Some node
-  pub are_branches : at_numbers ns (nodes_at x.branches) ≡ Some branches
+  pub are_branches : at_numbers ns (nodes_of x.branches) ≡ Some branches
   pub minus : x.minus ≡ fused_minus r node.field x.vertex node.legs branches
 
 abbrev pub HaveSigns : Reaction → List Key → List Term → Type 0
@@ -37,7 +38,7 @@ HasFoundSign r ns x = (ks : List Key) × (at_numbers ns (chosen_nodes x.branches
 
 -- the sign of a keystone term
 abbrev pub HasKeySign : Reaction → List Key → KeyTerm → Type 0
-HasKeySign r ns y = (ks : List Key) × (at_numbers ns (nodes_at y.branches) ≡ Some ks) × (y.minus ≡ closed_minus r y.vertex ks)
+HasKeySign r ns y = (ks : List Key) × (at_numbers ns (nodes_of y.branches) ≡ Some ks) × (y.minus ≡ closed_minus r y.vertex ks)
 
 abbrev pub KeysHaveSigns : Reaction → List Key → List KeyTerm → Type 0
 KeysHaveSigns r ns ys = (y : KeyTerm) → In y ys → HasKeySign r ns y

@@ -1,7 +1,8 @@
 //! Whether keystone terms stand in order, each once.
 ghost use Rattle.std.specs.Prelude.{◌≡◌, map, IsTrue, true};
 ghost use Rattle.om_graph.specs.Graph.{numbered_lt};
-ghost use Rattle.om_graph.specs.Possible.{nodes_at, unsigned_key};
+ghost use Rattle.om_graph.specs.Possible.{unsigned_key};
+ghost use Rattle.om_legs.specs.BranchNodes.{nodes_of};
 ghost use Rattle.om_model.specs.Order.{Rising, numbers_lt};
 
 use crate::KeyTerm;
@@ -37,7 +38,7 @@ fn is_before(a: &KeyTerm, b: &KeyTerm) -> bool
 }
 
 fn are_nodes_before(a: &Branches, b: &Branches) -> bool
-    ensures { IsTrue result → numbers_lt (nodes_at a.now) (nodes_at b.now) ≡ true }
+    ensures { IsTrue result → numbers_lt (nodes_of a.now) (nodes_of b.now) ≡ true }
 {
     let count = a.count as usize;
     b.count as usize == count && are_before(&a.nodes[..count], &b.nodes[..count])

@@ -2,7 +2,8 @@
 ghost use Rattle.std.specs.Prelude.{◌≡◌, ℕ, ◌≤◌, map, All, OnOk, IfErr};
 ghost use Rattle.om_graph.specs.Caches.{StandLast};
 ghost use Rattle.om_graph.specs.Loops.{chosen_nodes, fused_found};
-ghost use Rattle.om_graph.specs.Possible.{key_lt, nodes_at, state_of};
+ghost use Rattle.om_graph.specs.Possible.{key_lt, state_of};
+ghost use Rattle.om_legs.specs.BranchNodes.{nodes_of};
 ghost use Rattle.om_graph.specs.Search.{add, add_all};
 ghost use Rattle.om_graph.specs.SetWalk.{HasFoundSign, HaveSigns};
 ghost use Rattle.om_graph.specs.Vertices.{Reaction as ReactionOf};
@@ -61,22 +62,10 @@ fn add_term(nodes: &mut Nodes, terms: &mut List<Term>, one: Fused) -> Result<(),
 /// The nodes that are chosen, two to four.
 pub(crate) fn branches_of(chosen: Chosen) -> Branches
     requires { 2 ≤ chosen.count }
-    ensures { nodes_at result ≡ chosen_nodes chosen }
+    ensures { nodes_of result ≡ chosen_nodes chosen }
 {
-    let (a, b) = (chosen.first, chosen.second);
-    let (c, d) = (chosen.third, chosen.fourth);
-    match chosen.count {
-        2 => Branches {
-            count: 2,
-            nodes: [a, b, 0, 0],
-        },
-        3 => Branches {
-            count: 3,
-            nodes: [a, b, c, 0],
-        },
-        _ => Branches {
-            count: 4,
-            nodes: [a, b, c, d],
-        },
-    }
+    Branches::first_of(
+        chosen.count,
+        [chosen.first, chosen.second, chosen.third, chosen.fourth],
+    )
 }

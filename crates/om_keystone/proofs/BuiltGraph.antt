@@ -16,7 +16,8 @@ use Rattle.om_graph.specs.declared.Key.{Key}
 use Rattle.om_graph.specs.declared.KeyTerm.{KeyTerm}
 use Rattle.om_graph.specs.declared.Term.{Term}
 use Rattle.om_graph.specs.Graph.{Numbered, numbered_lt}
-use Rattle.om_graph.specs.Possible.{key_lt, flow_lt, nodes_at, unsigned, unsigned_key}
+use Rattle.om_graph.specs.Possible.{key_lt, flow_lt, unsigned, unsigned_key}
+use Rattle.om_legs.specs.BranchNodes.{nodes_of}
 use Rattle.om_graph.specs.Reactions.{reaction_of}
 use Rattle.om_graph.specs.TreeKeys.{IsReaction}
 use Rattle.om_graph.specs.Vertices.{Reaction, fusion}
@@ -88,7 +89,7 @@ module _ (r : Reaction) (kinds : Kinds) (is : IsReaction r kinds) (g : Graph) (c
         some_in term.0 (filter (λ t. t.node == n) g.terms) ((in_filter (λ t. t.node == n) term.0 g.terms).1 (term.1, there)),
         all_by (IsBelow n) (filter (λ t. t.node == n) g.terms) (λ t i.
             let f = (in_filter (λ t. t.node == n) t g.terms).0 i in
-            all_by (λ b. b < n) (nodes_at t.branches) (λ b j. subst (λ m. b < m) (eqb-true t.node n f.1) (built_up.lower (unsigned t) (in_map unsigned t g.terms f.0) b j))),
+            all_by (λ b. b < n) (nodes_of t.branches) (λ b j. subst (λ m. b < m) (eqb-true t.node n f.1) (built_up.lower (unsigned t) (in_map unsigned t g.terms f.0) b j))),
       )
 
   leg_built : (n : ℕ) (node : Key) → slice_get g.nodes n ≡ Some node → is_inner node ≡ false → terms_at g.terms n ≡ []
@@ -107,8 +108,8 @@ module _ (r : Reaction) (kinds : Kinds) (is : IsReaction r kinds) (g : Graph) (c
     legs = legs_from g.terms 0 g.nodes (λ n node e leg. let same : n ≡ 0 + n = omega arith in subst (λ m. terms_at g.terms m ≡ []) same (leg_built n node e leg));
     order = in_order 0 g.terms (λ t i. omega arith) canonical.graph.terms_rise;
     within = all_by (λ (t : Term). t.node < length g.nodes) g.terms (λ t i. built_up.within (unsigned t) (in_map unsigned t g.terms i));
-    keys = all_by (λ (t : KeyTerm). AllByRecursion (λ b. b < length g.nodes) (nodes_at t.branches)) g.keys (λ t i.
-        all_by (λ b. b < length g.nodes) (nodes_at t.branches) (λ b j. built_up.keys_within (unsigned_key t) (in_map unsigned_key t g.keys i) b j));
+    keys = all_by (λ (t : KeyTerm). AllByRecursion (λ b. b < length g.nodes) (nodes_of t.branches)) g.keys (λ t i.
+        all_by (λ b. b < length g.nodes) (nodes_of t.branches) (λ b j. built_up.keys_within (unsigned_key t) (in_map unsigned_key t g.keys i) b j));
     flows = all_by (λ (t : KeyTerm). t.flow < length g.flows) g.keys (λ t i. built_up.flows_within (unsigned_key t) (in_map unsigned_key t g.keys i));
   }
 

@@ -23,7 +23,8 @@ use Rattle.om_graph.specs.declared.Key.{Key}
 use Rattle.om_graph.specs.declared.KeyTerm.{KeyTerm}
 use Rattle.om_graph.specs.declared.Term.{Term}
 use Rattle.om_graph.specs.Graph.{Numbered}
-use Rattle.om_graph.specs.Possible.{nodes_at, unsigned, unsigned_key}
+use Rattle.om_graph.specs.Possible.{unsigned, unsigned_key}
+use Rattle.om_legs.specs.BranchNodes.{nodes_of}
 use Rattle.om_graph.specs.TreeKeys.{IsReaction}
 use Rattle.om_graph.specs.Vertices.{Reaction, fusion}
 use Rattle.om_graph.specs.Reactions.{reaction_of}
@@ -93,17 +94,17 @@ module _ {E : Type 0} (o : Ops E) (r : Reaction) (kinds : Kinds) (is : IsReactio
     term_same n k q j x i t =
         let m = (canonical.graph.terms (unsigned x)).0 (in_map unsigned x g.terms i) in
         let sign = canonical.signs.signs x k m.branches i (ap (slice_get g.nodes) (eqb-true x.node n t) ∙ q) m.are_branches in
-        let ks = keys_are (at_of g.nodes (nodes_at x.branches) m.branches m.are_branches) in
+        let ks = keys_are (at_of g.nodes (nodes_of x.branches) m.branches m.are_branches) in
         ap₂ (signed o) (sign ∙ ap ((key_view r).minus x.vertex k) (sym ks))
-        (meet_agrees o (node_indices o s f e g) g.nodes wave (extended wave) agrees (nodes_at x.branches) (rules.fused x.vertex x.choice k (keys_at g.nodes (nodes_at x.branches)) j))
+        (meet_agrees o (node_indices o s f e g) g.nodes wave (extended wave) agrees (nodes_of x.branches) (rules.fused x.vertex x.choice k (keys_at g.nodes (nodes_of x.branches)) j))
 
     key_same : (y : KeyTerm) → In y g.keys → key_value o s f e g wave y ≡ key_value_at o rules g.nodes (extended wave) (unsigned_key y)
     key_same y i =
         let m = (canonical.graph.keys (unsigned_key y)).0 (in_map unsigned_key y g.keys i) in
         let sign = canonical.signs.key_signs y m.branches i m.are_branches in
-        let ks = keys_are (at_of g.nodes (nodes_at y.branches) m.branches m.are_branches) in
+        let ks = keys_are (at_of g.nodes (nodes_of y.branches) m.branches m.are_branches) in
         ap₂ (signed o) (sign ∙ ap ((key_view r).closed_minus y.vertex) (sym ks))
-        (meet_agrees o (node_indices o s f e g) g.nodes wave (extended wave) agrees (nodes_at y.branches) (rules.closed y.vertex y.choice (keys_at g.nodes (nodes_at y.branches))))
+        (meet_agrees o (node_indices o s f e g) g.nodes wave (extended wave) agrees (nodes_of y.branches) (rules.closed y.vertex y.choice (keys_at g.nodes (nodes_of y.branches))))
 
     leg_wave : (n j i : ℕ) → slice_get g.nodes n ≡ Some ((fusion r).leg j) → 1 ≤ j → j ≤ s.size → extended wave n i ≡ e.wave j i
     leg_wave n j i q low high =

@@ -3,8 +3,10 @@ use Rattle.std.proofs.Common.{◌≡◌, ℕ, zero, suc, ◌<◌, ◌≤◌, Lis
 use Rattle.std.proofs.lemmas.List.{get_or-set_same, length-replicate}
 use Rattle.om_ring.specs.Members.{In}
 use Rattle.om_graph.specs.Graph.{Numbered}
-use Rattle.om_keystone.specs.Pruning.{is_marked, mark_all, mark_keys, mark_terms, marks_of}
-use Rattle.om_keystone.proofs.Steps.{length-mark_all, length-mark_keys, length-mark_terms}
+use Rattle.om_legs.proofs.Marks.{length-mark_each}
+use Rattle.om_legs.specs.BranchNodes.{mark_each}
+use Rattle.om_keystone.specs.Pruning.{is_marked, mark_keys, mark_terms, marks_of}
+use Rattle.om_keystone.proofs.Steps.{length-mark_keys, length-mark_terms}
 
 -- reached from the first marks by terms in any order
 pub data Reaches (xs : List Numbered) (m : ℕ → Type 0) : ℕ → Type 0 where
@@ -30,18 +32,18 @@ set_kept (b ∷ m) zero (suc n) h = h
 set_kept (b ∷ m) (suc k) zero h = h
 set_kept (b ∷ m) (suc k) (suc n) h = set_kept m k n h
 
-all_cases : (m : List Bool) (ns : List ℕ) (n : ℕ) → is_marked (mark_all m ns) n ≡ true → In n ns ⊎ (is_marked m n ≡ true)
-unfolding mark_all
+all_cases : (m : List Bool) (ns : List ℕ) (n : ℕ) → is_marked (mark_each true m ns) n ≡ true → In n ns ⊎ (is_marked m n ≡ true)
+unfolding mark_each
 all_cases m [] n h = inr h
 all_cases m (k ∷ ns) n h = ⊎_elim (λ i. inl (inr i)) (λ g. ⊎_elim (λ e. inl (inl e)) (λ i. inr i) (set_cases m k n g)) (all_cases (set m k true) ns n h)
 
-all_kept : (m : List Bool) (ns : List ℕ) (n : ℕ) → is_marked m n ≡ true → is_marked (mark_all m ns) n ≡ true
-unfolding mark_all
+all_kept : (m : List Bool) (ns : List ℕ) (n : ℕ) → is_marked m n ≡ true → is_marked (mark_each true m ns) n ≡ true
+unfolding mark_each
 all_kept m [] n h = h
 all_kept m (k ∷ ns) n h = all_kept (set m k true) ns n (set_kept m k n h)
 
-all_marked : (m : List Bool) (ns : List ℕ) (n : ℕ) → n < length m → In n ns → is_marked (mark_all m ns) n ≡ true
-unfolding mark_all
+all_marked : (m : List Bool) (ns : List ℕ) (n : ℕ) → n < length m → In n ns → is_marked (mark_each true m ns) n ≡ true
+unfolding mark_each
 all_marked m [] n l i = absurd i
 all_marked m (k ∷ ns) n l (inl e) = all_kept (set m k true) ns n (subst (λ j. is_marked (set m k true) j ≡ true) (sym e) (get_or-set_same m k true false (subst (λ j. j < length m) e l)))
 all_marked m (k ∷ ns) n l (inr i) = all_marked (set m k true) ns n (subst (λ j. n < j) (sym (length-set m k true)) l) i
@@ -53,18 +55,18 @@ InSome ys n = (y : Numbered) × In y ys × In n y.branches
 keys_cases : (m : List Bool) (ys : List Numbered) (n : ℕ) → is_marked (mark_keys m ys) n ≡ true → InSome ys n ⊎ (is_marked m n ≡ true)
 unfolding mark_keys
 keys_cases m [] n h = inr h
-keys_cases m (y ∷ ys) n h = ⊎_elim (λ i. inl (i.0, inr i.1, i.2)) (λ g. ⊎_elim (λ i. inl (y, inl refl, i)) (λ i. inr i) (all_cases m y.branches n g)) (keys_cases (mark_all m y.branches) ys n h)
+keys_cases m (y ∷ ys) n h = ⊎_elim (λ i. inl (i.0, inr i.1, i.2)) (λ g. ⊎_elim (λ i. inl (y, inl refl, i)) (λ i. inr i) (all_cases m y.branches n g)) (keys_cases (mark_each true m y.branches) ys n h)
 
 keys_kept : (m : List Bool) (ys : List Numbered) (n : ℕ) → is_marked m n ≡ true → is_marked (mark_keys m ys) n ≡ true
 unfolding mark_keys
 keys_kept m [] n h = h
-keys_kept m (y ∷ ys) n h = keys_kept (mark_all m y.branches) ys n (all_kept m y.branches n h)
+keys_kept m (y ∷ ys) n h = keys_kept (mark_each true m y.branches) ys n (all_kept m y.branches n h)
 
 keys_marked : (m : List Bool) (ys : List Numbered) (n : ℕ) → n < length m → (y : Numbered) → In y ys → In n y.branches → is_marked (mark_keys m ys) n ≡ true
 unfolding mark_keys
 keys_marked m [] n l y i j = absurd i
-keys_marked m (z ∷ ys) n l y (inl e) j = keys_kept (mark_all m z.branches) ys n (all_marked m z.branches n l (subst (λ (x : Numbered). In n x.branches) e j))
-keys_marked m (z ∷ ys) n l y (inr i) j = keys_marked (mark_all m z.branches) ys n (subst (λ k. n < k) (sym (length-mark_all m z.branches)) l) y i j
+keys_marked m (z ∷ ys) n l y (inl e) j = keys_kept (mark_each true m z.branches) ys n (all_marked m z.branches n l (subst (λ (x : Numbered). In n x.branches) e j))
+keys_marked m (z ∷ ys) n l y (inr i) j = keys_marked (mark_each true m z.branches) ys n (subst (λ k. n < k) (sym (length-mark_each true m z.branches)) l) y i j
 
 module _ (m : ℕ → Type 0) where
   wider : (x : Numbered) (xs : List Numbered) (k : ℕ) → Reaches xs m k → Reaches (x ∷ xs) m k
@@ -88,7 +90,7 @@ module _ (marks : List Bool) (m : ℕ → Type 0) where
   to_reaches first [] k h = at_first (first k h)
   to_reaches first (x ∷ xs) k h = by (is_marked (mark_terms marks xs) x.made) refl (λ n. to_reaches first xs n) h
     where
-      by : (b : Bool) → is_marked (mark_terms marks xs) x.made ≡ b → ((n : ℕ) → is_marked (mark_terms marks xs) n ≡ true → Reaches xs m n) → is_marked (cond b (mark_all (mark_terms marks xs) x.branches) (mark_terms marks xs)) k ≡ true → Reaches (x ∷ xs) m k
+      by : (b : Bool) → is_marked (mark_terms marks xs) x.made ≡ b → ((n : ℕ) → is_marked (mark_terms marks xs) n ≡ true → Reaches xs m n) → is_marked (cond b (mark_each true (mark_terms marks xs) x.branches) (mark_terms marks xs)) k ≡ true → Reaches (x ∷ xs) m k
       by false e ih h = wider m x xs k (ih k h)
       by true e ih h = ⊎_elim (λ i. along x (inl refl) (wider m x xs x.made (ih x.made e)) i) (λ g. wider m x xs k (ih k g)) (all_cases (mark_terms marks xs) x.branches k h)
 
@@ -98,7 +100,7 @@ module _ (marks : List Bool) (m : ℕ → Type 0) where
   from_reaches first [] r w k l (along y i s j) = absurd i
   from_reaches first (x ∷ xs) r w k l s = by (is_marked (mark_terms marks xs) x.made) refl (last m x xs r.0 r.1 k s) (λ n a. from_reaches first xs r.2 (λ y i. w y (inr i)) n a)
     where
-      by : (b : Bool) → is_marked (mark_terms marks xs) x.made ≡ b → Reaches xs m k ⊎ (Reaches xs m x.made × In k x.branches) → ((n : ℕ) → n < length marks → Reaches xs m n → is_marked (mark_terms marks xs) n ≡ true) → is_marked (cond b (mark_all (mark_terms marks xs) x.branches) (mark_terms marks xs)) k ≡ true
+      by : (b : Bool) → is_marked (mark_terms marks xs) x.made ≡ b → Reaches xs m k ⊎ (Reaches xs m x.made × In k x.branches) → ((n : ℕ) → n < length marks → Reaches xs m n → is_marked (mark_terms marks xs) n ≡ true) → is_marked (cond b (mark_each true (mark_terms marks xs) x.branches) (mark_terms marks xs)) k ≡ true
       by false e (inl t) ih = ih k l t
       by false e (inr t) ih = absurd (true≢false (sym (ih x.made (w x (inl refl)) t.0) ∙ e))
       by true e (inl t) ih = all_kept (mark_terms marks xs) x.branches k (ih k l t)

@@ -12,7 +12,8 @@ use Rattle.om_graph.specs.declared.KeyTerm.{KeyTerm}
 use Rattle.om_graph.specs.declared.Term.{Term}
 use Rattle.om_graph.specs.Fusion.{IsNode}
 use Rattle.om_graph.specs.Graph.{at_numbers, Numbered}
-use Rattle.om_graph.specs.Possible.{IsPossible, nodes_at, unsigned, unsigned_key}
+use Rattle.om_graph.specs.Possible.{IsPossible, unsigned, unsigned_key}
+use Rattle.om_legs.specs.BranchNodes.{nodes_of}
 use Rattle.om_graph.specs.Reactions.{reaction_of}
 use Rattle.om_graph.specs.TreeKeys.{IsReaction}
 use Rattle.om_graph.specs.Vertices.{Reaction, fusion, fused_minus, closed_minus}
@@ -42,7 +43,7 @@ module _ (r : Reaction) (kinds : Kinds) (is : IsReaction r kinds) (g : Graph) (c
       let z : Numbered = record { made = n.0; vertex = x.vertex; choice = x.choice; branches = bs.0 } in
       let y = in_mapped unsigned z whole.terms ((possible.graph.terms.members z).1 (record { node = met.node; branches = met.branches; is_node = n.1; are_branches = of_at bs.1; fuse = term.1 })) in
       let node : slice_get whole.nodes y.0.node ≡ Some met.node = ap (λ (u : Numbered). slice_get whole.nodes u.made) (sym y.2) ∙ n.1 in
-      let branches : at_numbers whole.nodes (nodes_at y.0.branches) ≡ Some met.branches = ap (λ (u : Numbered). at_numbers whole.nodes u.branches) (sym y.2) ∙ of_at bs.1 in
+      let branches : at_numbers whole.nodes (nodes_of y.0.branches) ≡ Some met.branches = ap (λ (u : Numbered). at_numbers whole.nodes u.branches) (sym y.2) ∙ of_at bs.1 in
       let vertex : x.vertex ≡ y.0.vertex = ap (λ (u : Numbered). u.vertex) y.2 in
       record {
         term = y.0;
@@ -65,7 +66,7 @@ module _ (r : Reaction) (kinds : Kinds) (is : IsReaction r kinds) (g : Graph) (c
       let z : Numbered = record { made = m.0; vertex = y.vertex; choice = y.choice; branches = bs.0 } in
       let x = in_mapped unsigned_key z whole.keys ((possible.graph.keys z).1 (record { flow = met.flow; branches = met.branches; is_flow = m.1; are_branches = of_at bs.1; close = term.1 })) in
       let flow : slice_get whole.flows x.0.flow ≡ Some met.flow = ap (λ (u : Numbered). slice_get whole.flows u.made) (sym x.2) ∙ m.1 in
-      let branches : at_numbers whole.nodes (nodes_at x.0.branches) ≡ Some met.branches = ap (λ (u : Numbered). at_numbers whole.nodes u.branches) (sym x.2) ∙ of_at bs.1 in
+      let branches : at_numbers whole.nodes (nodes_of x.0.branches) ≡ Some met.branches = ap (λ (u : Numbered). at_numbers whole.nodes u.branches) (sym x.2) ∙ of_at bs.1 in
       let vertex : y.vertex ≡ x.0.vertex = ap (λ (u : Numbered). u.vertex) x.2 in
       record {
         key = x.0;

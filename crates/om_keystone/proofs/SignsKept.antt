@@ -15,7 +15,8 @@ use Rattle.om_graph.specs.Graph.{at_numbers, Numbered, IsGraph}
 use Rattle.om_keystone.specs.CanonicalGraph.{IsCanonicalGraph, HasSigns}
 use Rattle.om_keystone.proofs.Reaching.{BranchesFirst}
 use Rattle.om_keystone.specs.Pruning.{is_marked, marks_of, numbers_from, new_number, renumbered, renumbered_key, kept_terms, kept_signs, IsReachedPart}
-use Rattle.om_graph.specs.Possible.{nodes_at, unsigned, unsigned_key}
+use Rattle.om_graph.specs.Possible.{unsigned, unsigned_key}
+use Rattle.om_legs.specs.BranchNodes.{nodes_of}
 use Rattle.om_keystone.proofs.ReachedPart.{reached_is_canonical, two_places, two_branches}
 
 first_same : {A : Type 0} (x y : A) (xs ys : List A) → x ∷ xs ≡ y ∷ ys → (x ≡ y) × (xs ≡ ys)
@@ -70,7 +71,7 @@ module _ (p : Fusion Key Flow) (lt : Key → Key → Bool) (order : IsOrder lt) 
   unfolding kept_terms
   terms_same = part.terms ∙ ap (map (renumbered numbers)) (filter_map (λ (x : Numbered). is_marked marks x.made) unsigned old.terms) ∙ map-map (renumbered numbers) unsigned (filter (λ (x : Term). is_marked marks x.node) old.terms)
 
-  term_sign : (x : Term) (k : Key) (ks : List Key) → In x new.terms → slice_get new.nodes x.node ≡ Some k → at_numbers new.nodes (nodes_at x.branches) ≡ Some ks → x.minus ≡ minus x.vertex k ks
+  term_sign : (x : Term) (k : Key) (ks : List Key) → In x new.terms → slice_get new.nodes x.node ≡ Some k → at_numbers new.nodes (nodes_of x.branches) ≡ Some ks → x.minus ≡ minus x.vertex k ks
   unfolding kept_signs
   term_sign x k ks i e g =
       let s = same_place (λ (x : Term). x.minus) unsigned (λ (x : Term). x.minus) (λ x. renumbered numbers (unsigned x)) new.terms (filter (λ (x : Term). is_marked marks x.node) old.terms) part.signs terms_same x i in
@@ -78,19 +79,19 @@ module _ (p : Fusion Key Flow) (lt : Key → Key → Bool) (order : IsOrder lt) 
       let b = (in_filter (λ (x : Term). is_marked marks x.node) y old.terms).0 s.1 in
       let t = two_places p lt order before rank ok first old.nodes ts ys old.flows graph (unsigned y) (in_map unsigned y old.terms b.0) b.1 in
       let node : k ≡ t.node = same_Some k t.node (sym e ∙ ap (slice_get new.nodes) (ap (λ (z : Numbered). z.made) s.3) ∙ ap (λ ns. slice_get ns (new_number numbers y.node)) part.nodes ∙ t.new_node) in
-      let branches : ks ≡ t.branches = same_Some ks t.branches (sym g ∙ ap (at_numbers new.nodes) (ap (λ (z : Numbered). z.branches) s.3) ∙ ap (λ ns. at_numbers ns (map (new_number numbers) (nodes_at y.branches))) part.nodes ∙ t.new_branches) in
+      let branches : ks ≡ t.branches = same_Some ks t.branches (sym g ∙ ap (at_numbers new.nodes) (ap (λ (z : Numbered). z.branches) s.3) ∙ ap (λ ns. at_numbers ns (map (new_number numbers) (nodes_of y.branches))) part.nodes ∙ t.new_branches) in
       s.2 ∙ signs.signs y t.node t.branches b.0 t.old_node t.old_branches
       ∙ ap (λ v. minus v t.node t.branches) (sym (ap (λ (z : Numbered). z.vertex) s.3)) ∙ ap₂ (minus x.vertex) (sym node) (sym branches)
 
   keys_same : map unsigned_key new.keys ≡ map (λ y. renumbered_key numbers (unsigned_key y)) old.keys
   keys_same = part.keys ∙ map-map (renumbered_key numbers) unsigned_key old.keys
 
-  key_sign : (y : KeyTerm) (ks : List Key) → In y new.keys → at_numbers new.nodes (nodes_at y.branches) ≡ Some ks → y.minus ≡ closed_minus y.vertex ks
+  key_sign : (y : KeyTerm) (ks : List Key) → In y new.keys → at_numbers new.nodes (nodes_of y.branches) ≡ Some ks → y.minus ≡ closed_minus y.vertex ks
   key_sign y ks i g =
       let s = same_place (λ (x : KeyTerm). x.minus) unsigned_key (λ (x : KeyTerm). x.minus) (λ x. renumbered_key numbers (unsigned_key x)) new.keys old.keys part.key_signs keys_same y i in
       let z = s.0 in
       let t = two_branches p lt order before rank ok first old.nodes ts ys old.flows graph (unsigned_key z) (in_map unsigned_key z old.keys s.1) in
-      let branches : ks ≡ t.branches = same_Some ks t.branches (sym g ∙ ap (at_numbers new.nodes) (ap (λ (x : Numbered). x.branches) s.3) ∙ ap (λ ns. at_numbers ns (map (new_number numbers) (nodes_at z.branches))) part.nodes ∙ t.new_branches) in
+      let branches : ks ≡ t.branches = same_Some ks t.branches (sym g ∙ ap (at_numbers new.nodes) (ap (λ (x : Numbered). x.branches) s.3) ∙ ap (λ ns. at_numbers ns (map (new_number numbers) (nodes_of z.branches))) part.nodes ∙ t.new_branches) in
       s.2 ∙ signs.key_signs z t.branches s.1 t.old_branches
       ∙ ap (λ v. closed_minus v t.branches) (sym (ap (λ (x : Numbered). x.vertex) s.3)) ∙ ap (closed_minus y.vertex) (sym branches)
 

@@ -6,14 +6,16 @@ use Rattle.std.specs.Prelude.{slice_index, slice_set}
 use Rattle.om_graph.specs.Graph.{Numbered}
 use Rattle.om_graph.specs.declared.KeyTerm.{KeyTerm}
 use Rattle.om_graph.specs.declared.Term.{Term}
-use Rattle.om_keystone.specs.Pruning.{is_marked, mark_all, mark_keys, mark_terms, marks_of, marked_of, numbers_from, AreLow, renumbered, kept_terms, kept_signs}
+use Rattle.om_legs.proofs.Marks.{length-mark_each}
+use Rattle.om_legs.specs.BranchNodes.{mark_each}
+use Rattle.om_keystone.specs.Pruning.{is_marked, mark_keys, mark_terms, marks_of, marked_of, numbers_from, AreLow, renumbered, kept_terms, kept_signs}
 use Rattle.om_graph.specs.Possible.{unsigned, unsigned_key}
 
 append_more : {A : Type 0} (xs : List A) (y : A) (ys : List A) → xs ++ (y ∷ ys) ≡ (xs ++ y ∷ []) ++ ys
 append_more [] y ys = refl
 append_more (x ∷ xs) y ys = ap (λ zs. x ∷ zs) (append_more xs y ys)
 
-pub mark_keys_step : (whole now new : List Bool) (ys : List KeyTerm) (y : KeyTerm) (i : ℕ) → i < length ys → y ≡ get_or ys i y → whole ≡ mark_keys now (map unsigned_key (drop i ys)) → new ≡ mark_all now (unsigned_key y).branches → whole ≡ mark_keys new (map unsigned_key (drop (i + 1) ys))
+pub mark_keys_step : (whole now new : List Bool) (ys : List KeyTerm) (y : KeyTerm) (i : ℕ) → i < length ys → y ≡ get_or ys i y → whole ≡ mark_keys now (map unsigned_key (drop i ys)) → new ≡ mark_each true now (unsigned_key y).branches → whole ≡ mark_keys new (map unsigned_key (drop (i + 1) ys))
 unfolding mark_keys
 mark_keys_step whole now new ys y i h q e g =
     e ∙ ap (λ zs. mark_keys now (map unsigned_key zs)) (drop_more ys i y h ∙ ap (λ z. z ∷ drop (i + 1) ys) (sym q)) ∙ ap (λ m. mark_keys m (map unsigned_key (drop (i + 1) ys))) (sym g)
@@ -23,13 +25,13 @@ unfolding mark_keys
 mark_keys_end whole now ys i h e = sym (e ∙ ap (λ zs. mark_keys now (map unsigned_key zs)) (drop_of_length-le ys h))
 
 -- the next term to the front
-pub mark_terms_more : (old now new : List Bool) (xs : List Term) (x : Term) (i : ℕ) → i < length xs → x ≡ get_or xs i x → now ≡ mark_terms old (map unsigned (drop (i + 1) xs)) → is_marked now x.node ≡ true → new ≡ mark_all now (unsigned x).branches → new ≡ mark_terms old (map unsigned (drop i xs))
+pub mark_terms_more : (old now new : List Bool) (xs : List Term) (x : Term) (i : ℕ) → i < length xs → x ≡ get_or xs i x → now ≡ mark_terms old (map unsigned (drop (i + 1) xs)) → is_marked now x.node ≡ true → new ≡ mark_each true now (unsigned x).branches → new ≡ mark_terms old (map unsigned (drop i xs))
 unfolding mark_terms
 mark_terms_more old now new xs x i h q e m g =
     let there : List Bool = mark_terms old (map unsigned (drop (i + 1) xs)) in
     let marked : is_marked there x.node ≡ true = ap (λ k. is_marked k x.node) (sym e) ∙ m in
-    g ∙ ap (λ k. mark_all k (unsigned x).branches) e
-    ∙ ap (λ b. cond b (mark_all there (unsigned x).branches) there) (sym marked)
+    g ∙ ap (λ k. mark_each true k (unsigned x).branches) e
+    ∙ ap (λ b. cond b (mark_each true there (unsigned x).branches) there) (sym marked)
     ∙ sym (ap (λ zs. mark_terms old (map unsigned zs)) (drop_more xs i x h ∙ ap (λ z. z ∷ drop (i + 1) xs) (sym q)))
 
 pub mark_terms_same : (old now : List Bool) (xs : List Term) (x : Term) (i : ℕ) → i < length xs → x ≡ get_or xs i x → now ≡ mark_terms old (map unsigned (drop (i + 1) xs)) → is_marked now x.node ≡ false → now ≡ mark_terms old (map unsigned (drop i xs))
@@ -38,7 +40,7 @@ mark_terms_same old now xs x i h q e m =
     let there : List Bool = mark_terms old (map unsigned (drop (i + 1) xs)) in
     let marked : is_marked there x.node ≡ false = ap (λ k. is_marked k x.node) (sym e) ∙ m in
     e
-    ∙ ap (λ b. cond b (mark_all there (unsigned x).branches) there) (sym marked)
+    ∙ ap (λ b. cond b (mark_each true there (unsigned x).branches) there) (sym marked)
     ∙ sym (ap (λ zs. mark_terms old (map unsigned zs)) (drop_more xs i x h ∙ ap (λ z. z ∷ drop (i + 1) xs) (sym q)))
 
 pub numbers_step : (whole now new : List ℕ) (c d : ℕ) (ms : List Bool) (i : ℕ) → i < length ms → whole ≡ now ++ numbers_from c (drop i ms) → new ≡ now ++ c ∷ [] → d ≡ c + cond (get_or ms i false) 1 0 → whole ≡ new ++ numbers_from d (drop (i + 1) ms)
@@ -144,23 +146,18 @@ pub marks_are : (n : ℕ) (blank now new : List Bool) (xs : List Term) (ys : Lis
 unfolding marks_of
 marks_are n blank now new xs ys b e g = g ∙ ap (λ m. mark_terms m (map unsigned xs)) e
 
-pub length-mark_all : (m : List Bool) (ns : List ℕ) → length (mark_all m ns) ≡ length m
-unfolding mark_all
-length-mark_all m [] = refl
-length-mark_all m (n ∷ ns) = length-mark_all (slice_set m n true) ns ∙ length-set m n true
-
 pub length-mark_keys : (m : List Bool) (ys : List Numbered) → length (mark_keys m ys) ≡ length m
 unfolding mark_keys
 length-mark_keys m [] = refl
-length-mark_keys m (y ∷ ys) = length-mark_keys (mark_all m y.branches) ys ∙ length-mark_all m y.branches
+length-mark_keys m (y ∷ ys) = length-mark_keys (mark_each true m y.branches) ys ∙ length-mark_each true m y.branches
 
 pub length-mark_terms : (m : List Bool) (xs : List Numbered) → length (mark_terms m xs) ≡ length m
 unfolding mark_terms
 length-mark_terms m [] = refl
 length-mark_terms m (x ∷ xs) = by (is_marked (mark_terms m xs) x.made) (length-mark_terms m xs)
   where
-    by : (b : Bool) → length (mark_terms m xs) ≡ length m → length (cond b (mark_all (mark_terms m xs) x.branches) (mark_terms m xs)) ≡ length m
-    by true e = length-mark_all (mark_terms m xs) x.branches ∙ e
+    by : (b : Bool) → length (mark_terms m xs) ≡ length m → length (cond b (mark_each true (mark_terms m xs) x.branches) (mark_terms m xs)) ≡ length m
+    by true e = length-mark_each true (mark_terms m xs) x.branches ∙ e
     by false e = e
 
 pub length-marks_of : (n : ℕ) (xs ys : List Numbered) → length (marks_of n xs ys) ≡ n

@@ -19,7 +19,8 @@ use Rattle.om_ring.proofs.Members.{in_map, in_filter}
 use Rattle.om_graph.specs.declared.Graph.{Graph}
 use Rattle.om_graph.specs.declared.Key.{Key}
 use Rattle.om_graph.specs.declared.Term.{Term}
-use Rattle.om_graph.specs.Possible.{nodes_at, unsigned}
+use Rattle.om_graph.specs.Possible.{unsigned}
+use Rattle.om_legs.specs.BranchNodes.{nodes_of}
 use Rattle.om_graph.specs.Reactions.{reaction_of}
 use Rattle.om_graph.proofs.HaveReactions.{well_formed_have_reactions}
 use Rattle.om_keystone.specs.Built.{is_inner, terms_at}
@@ -74,15 +75,15 @@ module _ {E : Type 0} (o : Ops E) (s : Scattering) (r : FeynmanRules E) (e : Eve
       ap (λ b. cond b (node_at (slice_get g.nodes n) (stage n) n i) (stage n n i)) here
       ∙ ap (λ u. node_at u (stage n) n i) q
 
-  module _ (lower : (t : Term) → In t g.terms → (b : ℕ) → In b (nodes_at t.branches) → b < t.node) where
+  module _ (lower : (t : Term) → In t g.terms → (b : ℕ) → In b (nodes_of t.branches) → b < t.node) where
     terms_same : (n : ℕ) (k : Key) (j : ℕ) → sum_over o (terms_at g.terms n) (term_value o s r e g (stage n) k j) ≡ sum_over o (terms_at g.terms n) (term_value o s r e g wave k j)
     unfolding terms_at
     terms_same n k j =
         sum_over-same o (terms_at g.terms n) (term_value o s r e g (stage n) k j) (term_value o s r e g wave k j) (λ x m.
         let f = (in_filter (λ (t : Term). t.node == n) x g.terms).0 m in
-        ap (signed o x.minus) (meet_same o (node_indices o s r e g) g.nodes (stage n) wave (nodes_at x.branches)
+        ap (signed o x.minus) (meet_same o (node_indices o s r e g) g.nodes (stage n) wave (nodes_of x.branches)
         (λ b m i. settled n b i (subst (λ k. b < k) (eqb-true x.node n f.1) (lower x f.0 b m)))
-        (λ is. vertex_entry o s r e x.vertex x.choice ((opposite s (part_of k), j) ∷ with_indices (map part_of (keys_at g.nodes (nodes_at x.branches))) is))))
+        (λ is. vertex_entry o s r e x.vertex x.choice ((opposite s (part_of k), j) ∷ with_indices (map part_of (keys_at g.nodes (nodes_of x.branches))) is))))
 
     are_waves : AreNodeWaves o s r e g wave
     are_waves n k q i m = wave_is n k q i ∙ by (is_inner k)
@@ -99,6 +100,6 @@ module _ {E : Type 0} (o : Ops E) (s : Scattering) (r : FeynmanRules E) (e : Eve
 
 pub nodes_have_waves : {E : Type 0} (o : Ops E) → NodesHaveWaves o
 nodes_have_waves o m p formed is g canonical t e =
-    let lower : (x : Term) → In x g.terms → (b : ℕ) → In b (nodes_at x.branches) → b < x.node =
+    let lower : (x : Term) → In x g.terms → (b : ℕ) → In b (nodes_of x.branches) → b < x.node =
     λ x i b j. (built_up (reaction_of m p) (kinds_of m.particles) (well_formed_have_reactions m p formed is) g canonical).lower (unsigned x) (in_map unsigned x g.terms i) b j in
     (wave o (scattering_of m p) (feynman_rules o m t) e g, are_waves o (scattering_of m p) (feynman_rules o m t) e g lower)

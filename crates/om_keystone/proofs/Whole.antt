@@ -10,7 +10,8 @@ use Rattle.om_graph.specs.declared.Graph.{Graph}
 use Rattle.om_graph.specs.declared.KeyTerm.{KeyTerm}
 use Rattle.om_graph.specs.declared.Term.{Term}
 use Rattle.om_graph.specs.Graph.{Numbered}
-use Rattle.om_graph.specs.Possible.{IsPossible, nodes_at, unsigned, unsigned_key}
+use Rattle.om_graph.specs.Possible.{IsPossible, unsigned, unsigned_key}
+use Rattle.om_legs.specs.BranchNodes.{nodes_of}
 use Rattle.om_graph.specs.Vertices.{Reaction}
 use Rattle.om_keystone.specs.Pruning.{is_marked, marked_of, numbers_from, new_number, renumbered, renumbered_key, kept_terms, kept_signs, NamesItsNodes, IsMarkedPart}
 use Rattle.om_keystone.proofs.Numbers.{at_of, at_number}
@@ -21,11 +22,11 @@ possible_names_nodes r g possible = record {
   terms = λ x i.
       let t = (possible.graph.terms.members (unsigned x)).0 (in_map unsigned x g.terms i) in (
         slice_get_within g.nodes x.node t.node t.is_node,
-        λ n j. let b = at_number n (at_of g.nodes (nodes_at x.branches) t.branches t.are_branches) j in slice_get_within g.nodes n b.0 b.1,
+        λ n j. let b = at_number n (at_of g.nodes (nodes_of x.branches) t.branches t.are_branches) j in slice_get_within g.nodes n b.0 b.1,
       );
   keys = λ y i n j.
       let t = (possible.graph.keys (unsigned_key y)).0 (in_map unsigned_key y g.keys i) in
-      let b = at_number n (at_of g.nodes (nodes_at y.branches) t.branches t.are_branches) j in
+      let b = at_number n (at_of g.nodes (nodes_of y.branches) t.branches t.are_branches) j in
       slice_get_within g.nodes n b.0 b.1;
 }
 
@@ -87,10 +88,10 @@ module _ (marks : List Bool) (g : Graph) (all : AreAllMarked marks) (size : leng
   same_term : (x : Term) → In x g.terms → renumbered (numbers_from 0 marks) (unsigned x) ≡ unsigned x
   same_term x i =
       let w = names.terms x i in
-      ap₂ (λ m ns. let z : Numbered = record { made = m; vertex = x.vertex; choice = x.choice; branches = ns } in z) (same x.node w.0) (same_nodes (nodes_at x.branches) w.1)
+      ap₂ (λ m ns. let z : Numbered = record { made = m; vertex = x.vertex; choice = x.choice; branches = ns } in z) (same x.node w.0) (same_nodes (nodes_of x.branches) w.1)
 
   same_key : (y : KeyTerm) → In y g.keys → renumbered_key (numbers_from 0 marks) (unsigned_key y) ≡ unsigned_key y
-  same_key y i = ap (λ ns. let z : Numbered = record { made = y.flow; vertex = y.vertex; choice = y.choice; branches = ns } in z) (same_nodes (nodes_at y.branches) (names.keys y i))
+  same_key y i = ap (λ ns. let z : Numbered = record { made = y.flow; vertex = y.vertex; choice = y.choice; branches = ns } in z) (same_nodes (nodes_of y.branches) (names.keys y i))
 
   same_terms : kept_terms marks (numbers_from 0 marks) (map unsigned g.terms) ≡ map unsigned g.terms
   unfolding kept_terms

@@ -6,7 +6,7 @@ use Rattle.om_graph.specs.declared.Graph.{Graph}
 use Rattle.om_graph.specs.declared.Key.{Key}
 use Rattle.om_graph.specs.declared.KeyTerm.{KeyTerm}
 use Rattle.om_graph.specs.declared.Term.{Term}
-use Rattle.om_graph.specs.Possible.{nodes_at}
+use Rattle.om_legs.specs.BranchNodes.{nodes_of}
 
 -- a node of two legs or more
 abbrev pub is_inner : Key → Bool
@@ -21,7 +21,7 @@ keys_at_flow keys m = filter (λ t. t.flow == m) keys
 
 -- the nodes that meet have lesser numbers than the one that they make
 abbrev pub IsBelow : ℕ → Term → Type 0
-IsBelow k t = AllByRecursion (λ b. b < k) (nodes_at t.branches)
+IsBelow k t = AllByRecursion (λ b. b < k) (nodes_of t.branches)
 
 -- node k, if it is inner, has a term, and each of its terms is made of earlier nodes
 abbrev pub NodeIsBuilt : List Term → ℕ → Key → Type 0
@@ -48,5 +48,5 @@ pub record IsBuilt (g : Graph) : Type 0 where
   pub legs : LegsHaveNone g.terms 0 g.nodes
   pub order : AreInOrder 0 g.terms
   pub within : AllByRecursion (λ (t : Term). t.node < length g.nodes) g.terms
-  pub keys : AllByRecursion (λ (t : KeyTerm). AllByRecursion (λ b. b < length g.nodes) (nodes_at t.branches)) g.keys
+  pub keys : AllByRecursion (λ (t : KeyTerm). AllByRecursion (λ b. b < length g.nodes) (nodes_of t.branches)) g.keys
   pub flows : AllByRecursion (λ (t : KeyTerm). t.flow < length g.flows) g.keys

@@ -8,7 +8,8 @@ use Rattle.om_graph.specs.declared.KeyTerm.{KeyTerm}
 use Rattle.om_graph.specs.declared.Term.{Term}
 use Rattle.om_graph.specs.Fusion.{Fusion}
 use Rattle.om_graph.specs.Graph.{Numbered, at_numbers, numbered_lt}
-use Rattle.om_graph.specs.Possible.{key_lt, flow_lt, nodes_at, unsigned, unsigned_key}
+use Rattle.om_graph.specs.Possible.{key_lt, flow_lt, unsigned, unsigned_key}
+use Rattle.om_legs.specs.BranchNodes.{nodes_of}
 use Rattle.om_graph.specs.Vertices.{Reaction, fusion, fused_minus, closed_minus}
 use Rattle.om_keystone.specs.InDiagrams.{IsOutward, IsMet, IsKeyMet, IsFlowMet}
 
@@ -43,9 +44,9 @@ module _ {K F : Type 0} (p : Fusion K F) where
 -- each term and each keystone term has the sign that its vertex and the keys that meet there give
 pub record HasSigns (minus : ℕ → Key → List Key → Bool) (closed_minus : ℕ → List Key → Bool) (g : Graph) : Type 0 where
   pub signs : (x : Term) (k : Key) (ks : List Key) → In x g.terms → slice_get g.nodes x.node ≡ Some k
-      → at_numbers g.nodes (nodes_at x.branches) ≡ Some ks → x.minus ≡ minus x.vertex k ks
+      → at_numbers g.nodes (nodes_of x.branches) ≡ Some ks → x.minus ≡ minus x.vertex k ks
   pub key_signs : (y : KeyTerm) (ks : List Key) → In y g.keys
-      → at_numbers g.nodes (nodes_at y.branches) ≡ Some ks → y.minus ≡ closed_minus y.vertex ks
+      → at_numbers g.nodes (nodes_of y.branches) ≡ Some ks → y.minus ≡ closed_minus y.vertex ks
 
 -- the canonical graph of a process over its model, with the signs of the fermions that cross
 pub record IsCanonicalOf (r : Reaction) (g : Graph) : Type 0 where

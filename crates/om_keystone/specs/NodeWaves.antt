@@ -17,7 +17,7 @@ use Rattle.om_graph.specs.declared.Graph.{Graph}
 use Rattle.om_graph.specs.declared.Key.{Key}
 use Rattle.om_graph.specs.declared.KeyTerm.{KeyTerm}
 use Rattle.om_graph.specs.declared.Term.{Term}
-use Rattle.om_graph.specs.Possible.{nodes_at}
+use Rattle.om_legs.specs.BranchNodes.{nodes_of}
 use Rattle.om_keystone.specs.Built.{is_inner, terms_at, keys_at_flow}
 use Rattle.om_keystone.specs.EdgeRules.{opposite, name_of, with_indices, propagator_of}
 
@@ -53,14 +53,14 @@ module _ {E : Type 0} (o : Ops E) (s : Scattering) (r : FeynmanRules E) (e : Eve
   -- branches, of the entry of its vertex times their wave functions
   abbrev pub term_value : (ℕ → ℕ → E) → Key → ℕ → Term → E
   term_value wave k j x =
-      signed o x.minus (meet_at o node_indices g.nodes wave (nodes_at x.branches) (λ is.
-      vertex_entry o s r e x.vertex x.choice ((opposite s (part_of k), j) ∷ with_indices (map part_of (keys_at g.nodes (nodes_at x.branches))) is)))
+      signed o x.minus (meet_at o node_indices g.nodes wave (nodes_of x.branches) (λ is.
+      vertex_entry o s r e x.vertex x.choice ((opposite s (part_of k), j) ∷ with_indices (map part_of (keys_at g.nodes (nodes_of x.branches))) is)))
 
   -- what a keystone term adds to its flow
   abbrev pub key_value : (ℕ → ℕ → E) → KeyTerm → E
   key_value wave y =
-      signed o y.minus (meet_at o node_indices g.nodes wave (nodes_at y.branches) (λ is.
-      vertex_entry o s r e y.vertex y.choice (with_indices (map part_of (keys_at g.nodes (nodes_at y.branches))) is)))
+      signed o y.minus (meet_at o node_indices g.nodes wave (nodes_of y.branches) (λ is.
+      vertex_entry o s r e y.vertex y.choice (with_indices (map part_of (keys_at g.nodes (nodes_of y.branches))) is)))
 
   -- The wave function of node k, which has number n, at an index of the upper end of the edge above it: that of a leg is given; that of an
   -- inner node is the sum over its terms, propagated once.

@@ -6,7 +6,7 @@ use Rattle.om_graph.specs.declared.Key.{Key}
 use Rattle.om_graph.specs.declared.KeyTerm.{KeyTerm}
 use Rattle.om_graph.specs.declared.Term.{Term}
 use Rattle.om_graph.specs.Graph.{at_numbers}
-use Rattle.om_graph.specs.Possible.{nodes_at}
+use Rattle.om_legs.specs.BranchNodes.{nodes_of}
 
 -- a term of one graph stands in another one: of the same nodes, with the same vertex, choice and sign
 pub record StandsIn (whole part : Graph) (x : Term) : Type 0 where
@@ -16,7 +16,7 @@ pub record StandsIn (whole part : Graph) (x : Term) : Type 0 where
   pub minus : x.minus ≡ term.minus
   pub vertex : x.vertex ≡ term.vertex
   pub choice : x.choice ≡ term.choice
-  pub branches : at_numbers part.nodes (nodes_at x.branches) ≡ at_numbers whole.nodes (nodes_at term.branches)
+  pub branches : at_numbers part.nodes (nodes_of x.branches) ≡ at_numbers whole.nodes (nodes_of term.branches)
 
 -- and a keystone term
 pub record KeyStandsIn (whole part : Graph) (y : KeyTerm) : Type 0 where
@@ -26,7 +26,7 @@ pub record KeyStandsIn (whole part : Graph) (y : KeyTerm) : Type 0 where
   pub minus : y.minus ≡ key.minus
   pub vertex : y.vertex ≡ key.vertex
   pub choice : y.choice ≡ key.choice
-  pub branches : at_numbers part.nodes (nodes_at y.branches) ≡ at_numbers whole.nodes (nodes_at key.branches)
+  pub branches : at_numbers part.nodes (nodes_of y.branches) ≡ at_numbers whole.nodes (nodes_of key.branches)
 
 -- each node, term and keystone term of one graph stands in another one
 pub record IsPartOf (whole part : Graph) : Type 0 where

@@ -1,29 +1,25 @@
 -- Marks on the nodes that are kept, and the graph of these nodes alone.
-use Rattle.std.specs.Prelude.{◌≡◌, ℕ, ◌+◌, ◌<◌, ◌≤◌, List, [], ◌∷◌, map, filter, length, replicate, Bool, true, false, cond, slice_index, slice_index_or, slice_set}
+use Rattle.std.specs.Prelude.{◌≡◌, ℕ, ◌+◌, ◌<◌, ◌≤◌, List, [], ◌∷◌, map, filter, length, replicate, Bool, true, false, cond, slice_index, slice_index_or}
 use Rattle.om_ring.specs.Members.{In}
 use Rattle.om_graph.specs.Graph.{Numbered}
 use Rattle.om_graph.specs.declared.Graph.{Graph}
 use Rattle.om_graph.specs.declared.KeyTerm.{KeyTerm}
 use Rattle.om_graph.specs.declared.Term.{Term}
-use Rattle.om_graph.specs.Possible.{nodes_at, unsigned, unsigned_key}
+use Rattle.om_graph.specs.Possible.{unsigned, unsigned_key}
+use Rattle.om_legs.specs.BranchNodes.{mark_each, nodes_of}
 
 abbrev pub is_marked : List Bool → ℕ → Bool
 is_marked marks n = slice_index_or marks n false
 
--- some nodes get marks
-unfoldable pub mark_all : List Bool → List ℕ → List Bool
-mark_all marks [] = marks
-mark_all marks (n ∷ ns) = mark_all (slice_set marks n true) ns
-
 -- the nodes of keystone terms get marks
 unfoldable pub mark_keys : List Bool → List Numbered → List Bool
 mark_keys marks [] = marks
-mark_keys marks (y ∷ ys) = mark_keys (mark_all marks y.branches) ys
+mark_keys marks (y ∷ ys) = mark_keys (mark_each true marks y.branches) ys
 
 -- the branches of a node with a mark get marks; the later terms mark first
 unfoldable pub mark_terms : List Bool → List Numbered → List Bool
 mark_terms marks [] = marks
-mark_terms marks (x ∷ xs) = cond (is_marked (mark_terms marks xs) x.made) (mark_all (mark_terms marks xs) x.branches) (mark_terms marks xs)
+mark_terms marks (x ∷ xs) = cond (is_marked (mark_terms marks xs) x.made) (mark_each true (mark_terms marks xs) x.branches) (mark_terms marks xs)
 
 unfoldable pub marks_of : ℕ → List Numbered → List Numbered → List Bool
 marks_of n xs ys = mark_terms (mark_keys (replicate n false) ys) xs
@@ -63,8 +59,8 @@ kept_signs marks xs = map (λ (x : Term). x.minus) (filter (λ (x : Term). is_ma
 
 -- the terms and keystone terms of a graph name nodes that are there
 pub record NamesItsNodes (g : Graph) : Type 0 where
-  pub terms : (x : Term) → In x g.terms → (x.node < length g.nodes) × ((n : ℕ) → In n (nodes_at x.branches) → n < length g.nodes)
-  pub keys : (y : KeyTerm) → In y g.keys → (n : ℕ) → In n (nodes_at y.branches) → n < length g.nodes
+  pub terms : (x : Term) → In x g.terms → (x.node < length g.nodes) × ((n : ℕ) → In n (nodes_of x.branches) → n < length g.nodes)
+  pub keys : (y : KeyTerm) → In y g.keys → (n : ℕ) → In n (nodes_of y.branches) → n < length g.nodes
 
 -- the graph of the nodes with marks
 pub record IsMarkedPart (marks : List Bool) (old new : Graph) : Type 0 where

@@ -2,12 +2,12 @@
 ghost use Rattle.std.specs.Prelude.{◌≡◌, ◌<◌, IfOk, All, map, length};
 ghost use Rattle.om_graph.specs.declared.KeyTerm.{KeyTerm};
 ghost use Rattle.om_graph.specs.declared.Term.{Term};
-ghost use Rattle.om_graph.specs.Possible.{nodes_at, unsigned, unsigned_key};
+ghost use Rattle.om_graph.specs.Possible.{unsigned, unsigned_key};
+ghost use Rattle.om_legs.specs.BranchNodes.{nodes_of};
 ghost use Rattle.std.specs.List.{list_all};
-ghost use Rattle.om_keystone.specs.Pruning.{is_marked, mark_all, mark_keys, mark_terms, marks_of};
+ghost use Rattle.om_keystone.specs.Pruning.{is_marked, mark_keys, mark_terms, marks_of};
 
 use om_graph::{KeyTerm, Term};
-use om_legs::Branches;
 use om_ring::NoMemory;
 use std::alloc::Global;
 
@@ -18,8 +18,8 @@ pub(crate) fn marks_of(
     terms: &[Term],
     keys: &[KeyTerm],
 ) -> Result<Vec<bool>, NoMemory>
-    requires terms_within { All (λ (x : Term). All (λ n. n < count) (nodes_at x.branches)) terms.now }
-    requires keys_within { All (λ (y : KeyTerm). All (λ n. n < count) (nodes_at y.branches)) keys.now }
+    requires terms_within { All (λ (x : Term). All (λ n. n < count) (nodes_of x.branches)) terms.now }
+    requires keys_within { All (λ (y : KeyTerm). All (λ n. n < count) (nodes_of y.branches)) keys.now }
     ensures marks { IfOk result (λ marks. marks.items ≡ marks_of count (map unsigned terms.now) (map unsigned_key keys.now)) }
 {
     let Ok(mut marks) = vec![in alloc; false; count] else {
@@ -33,47 +33,26 @@ pub(crate) fn marks_of(
 
 // Marks the nodes of keystone terms.
 fn mark_keys(marks: &mut [bool], keys: &[KeyTerm])
-    requires { All (λ (y : KeyTerm). All (λ n. n < length marks.old) (nodes_at y.branches)) keys.now }
+    requires { All (λ (y : KeyTerm). All (λ n. n < length marks.old) (nodes_of y.branches)) keys.now }
     ensures marks { marks.new ≡ mark_keys marks.old (map unsigned_key keys.now) }
     ensures length { length marks.new ≡ length marks.old }
 {
     for key in keys {
-        mark_branches(marks, &key.branches);
+        key.branches.mark(marks, true);
     }
-}
-
-// Marks the nodes that meet.
-#[inline(always)]
-#[tactic(auto, unfolding(crate::specs::Pruning::mark_all))]
-fn mark_branches(marks: &mut [bool], branches: &Branches)
-    requires { All (λ n. n < length marks.old) (nodes_at branches.now) }
-    ensures marks { marks.new ≡ mark_all marks.old (nodes_at branches.now) }
-    ensures length { length marks.new ≡ length marks.old }
-{
-    let [first, second, third, fourth] = branches.nodes;
-    marks[first as usize] = true;
-    marks[second as usize] = true;
-    if branches.count == 2 {
-        return;
-    }
-    marks[third as usize] = true;
-    if branches.count == 3 {
-        return;
-    }
-    marks[fourth as usize] = true;
 }
 
 // Marks the branches of the nodes that are marked, by the last term first: a branch has a lesser number than its node, so
 // all terms that could mark a node come before the node's own.
 fn mark_terms(marks: &mut [bool], terms: &[Term])
-    requires { All (λ (x : Term). All (λ n. n < length marks.old) (nodes_at x.branches)) terms.now }
+    requires { All (λ (x : Term). All (λ n. n < length marks.old) (nodes_of x.branches)) terms.now }
     ensures marks { marks.new ≡ mark_terms marks.old (map unsigned terms.now) }
     ensures length { length marks.new ≡ length marks.old }
 {
     for i in (0..terms.len()).rev() {
         let term = terms[i];
         if has_mark(marks, term.node) {
-            mark_branches(marks, &term.branches);
+            term.branches.mark(marks, true);
         }
     }
 }

@@ -1,7 +1,8 @@
 //! The canonical graph out of the possible one.
 ghost use Rattle.std.specs.Prelude.{◌≡◌, IfOk, length, map};
 ghost use Rattle.om_graph.specs.Graph.{numbered_lt};
-ghost use Rattle.om_graph.specs.Possible.{IsPossible, nodes_at, unsigned, unsigned_key};
+ghost use Rattle.om_graph.specs.Possible.{IsPossible, unsigned, unsigned_key};
+ghost use Rattle.om_legs.specs.BranchNodes.{nodes_of};
 ghost use Rattle.om_graph.specs.Reactions.{reaction_of};
 ghost use Rattle.om_model.specs.Order.{Rising};
 ghost use Rattle.om_model.specs.WellFormed.{IsWellFormed};
@@ -201,14 +202,16 @@ fn new_number(numbers: &[usize], node: u32) -> u32
 // The same branches by their new numbers.
 fn renumbered(numbers: &[usize], branches: &Branches) -> Branches
     requires low { AreLow numbers.now }
-    ensures { nodes_at result ≡ map (new_number numbers.now) (nodes_at branches.now) }
+    ensures { nodes_of result ≡ map (new_number numbers.now) (nodes_of branches.now) }
 {
-    let mut nodes = [0; 4];
-    for k in 0..branches.count as usize {
-        nodes[k] = new_number(numbers, branches.nodes[k]);
-    }
-    Branches {
-        count: branches.count,
-        nodes,
-    }
+    let [a, b, c, d] = branches.nodes;
+    Branches::first_of(
+        branches.count,
+        [
+            new_number(numbers, a),
+            new_number(numbers, b),
+            new_number(numbers, c),
+            new_number(numbers, d),
+        ],
+    )
 }

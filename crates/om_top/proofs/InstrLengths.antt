@@ -13,7 +13,7 @@ use Rattle.om_keystone.specs.Built.{is_inner}
 use Rattle.om_code.specs.declared.code.Instr.{Instr}
 use Rattle.om_code.specs.declared.code.Instr.TheVariants.{Load, Fuse, Prop, Key}
 use Rattle.om_code.specs.Ops.{Op, fuse, key, load, op_of, placed_op, prop}
-use Rattle.om_code.specs.Slots.{nodes_of}
+use Rattle.om_legs.specs.BranchNodes.{nodes_of}
 use Rattle.om_emit.specs.GraphCode.{fuse_op, key_op}
 use Rattle.om_emit.specs.GraphWalk.{behind, front, step_ops, step_rest, walk_ops}
 use Rattle.om_io.specs.Lines.{line_text, lines_text}

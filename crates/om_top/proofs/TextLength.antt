@@ -31,7 +31,7 @@ use Rattle.om_code.specs.declared.code.Instr.TheVariants.{Load, Fuse, Prop, Key}
 use Rattle.om_code.specs.Contents.{NamesSlots}
 use Rattle.om_code.specs.Plain.{IsPlainInstr, IsPlainVertex}
 use Rattle.om_code.specs.Rules.{names_all, size_of}
-use Rattle.om_code.specs.Slots.{nodes_of}
+use Rattle.om_legs.specs.BranchNodes.{nodes_of}
 use Rattle.om_asm.specs.InRange.{InstrInRange, ParticleInRange, VertexInRange}
 use Rattle.om_io.specs.Lines.{line_text}
 use Rattle.om_program_text.specs.ProgramText.{den_words, flow_words, leg_words, particle_words, vertex_words}

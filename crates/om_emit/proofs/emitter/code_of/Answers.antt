@@ -6,7 +6,6 @@ use Rattle.om_code.specs.Spans.{is_named, width}
 use Rattle.om_code.specs.SlotPlans.{first_fit}
 use Rattle.om_emit.specs.GraphCode.{dens_of, key_lines}
 use Rattle.om_emit.proofs.Emitted.{slice_few, slice_has, same_dens, all_below, keys_known, the_slots, the_instrs}
-use Rattle.om_emit.proofs.Placing.{keys_placed}
 use Rattle.om_emit.proofs.emitter.code_of.Goals as goal
 
 pub node_code-requires-clause-few_dens : goal.node_code-requires-clause-few_dens
@@ -28,9 +27,6 @@ pub plan_with_keys-requires-clause-known : goal.plan_with_keys-requires-clause-k
 plan_with_keys-requires-clause-known c r h = keys_known c.args.graph.now c.args.model.now (length c.args.process.now.legs) c.as_slice-particles.result.now c.len-n.result c.as_slice-in_order.result.now c.as_slice-named.result.now c.as_slice-particles.ensures c.len-n.ensures
     (c.as_slice-in_order.ensures ∙ c.in_ok-dens.ensures ∙ c.in_ok-edges.ensures.edges ∙ ap (dens_of (anti_field c.as_slice-particles.result.now) c.len-n.result) c.as_slice-nodes.ensures) c.requires.built
     (ap (map op_of) c.as_slice-named.ensures ∙ c.in_ok-instrs.ensures) r (ap (λ ks. is_named (key_lines ks) r) (sym c.as_slice-keys.ensures) ∙ h)
-
-pub push_keys-requires-clause-in_range : goal.push_keys-requires-clause-in_range
-push_keys-requires-clause-in_range c = keys_placed (length c.args.graph.now.nodes) (vec_len c.in_ok-plan.plan.slots) c.args.graph.now.keys c.as_slice-keys.result.now c.requires.built.keys (c.in_ok-plan.ensures.length ∙ ap length c.as_slice-nodes.ensures) c.as_slice-keys.ensures
 
 pub returns-clause-code : goal.returns-clause-code
 returns-clause-code c =

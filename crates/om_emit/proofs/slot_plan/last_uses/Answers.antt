@@ -1,7 +1,7 @@
 use Rattle.std.proofs.Common.{◌≡◌, arith, rules, ap, ◌∙◌, replicate}
 use Rattle.std.proofs.lemmas.Grind.{common_steps}
 use Rattle.om_code.specs.Ops.{lines_of_code}
-use Rattle.om_emit.specs.Planning.{mark_each}
+use Rattle.om_legs.specs.BranchNodes.{mark_each}
 use Rattle.om_emit.proofs.PlanningSteps.{last_uses_none, last_uses_more}
 use Rattle.om_emit.proofs.slot_plan.last_uses.Goals as goal
 

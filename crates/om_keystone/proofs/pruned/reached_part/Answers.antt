@@ -3,7 +3,8 @@ use Rattle.std.specs.List.{list_all}
 use Rattle.om_graph.specs.declared.Graph.{Graph}
 use Rattle.om_graph.specs.declared.KeyTerm.{KeyTerm}
 use Rattle.om_graph.specs.declared.Term.{Term}
-use Rattle.om_graph.specs.Possible.{nodes_at, unsigned, unsigned_key}
+use Rattle.om_graph.specs.Possible.{unsigned, unsigned_key}
+use Rattle.om_legs.specs.BranchNodes.{nodes_of}
 use Rattle.om_keystone.specs.Pruning.{marks_of, IsMarkedPart}
 use Rattle.om_keystone.proofs.Steps.{length-marks_of}
 use Rattle.om_keystone.proofs.Whole.{all_below, whole_is_part}
@@ -17,12 +18,12 @@ these g marks n terms keys e f h k = e ∙ ap (λ m. marks_of m (map unsigned te
 pub marks_of-requires-clause-terms_within : goal.marks_of-requires-clause-terms_within
 marks_of-requires-clause-terms_within c =
     let g = c.args.graph in
-    all_below (λ (x : Term). nodes_at x.branches) (length g.nodes) c.len.result g.terms c.as_slice.result.now (λ x i. (c.requires.within.terms x i).1) c.len.ensures c.as_slice.ensures
+    all_below (λ (x : Term). nodes_of x.branches) (length g.nodes) c.len.result g.terms c.as_slice.result.now (λ x i. (c.requires.within.terms x i).1) c.len.ensures c.as_slice.ensures
 
 pub marks_of-requires-clause-keys_within : goal.marks_of-requires-clause-keys_within
 marks_of-requires-clause-keys_within c =
     let g = c.args.graph in
-    all_below (λ (y : KeyTerm). nodes_at y.branches) (length g.nodes) c.len.result g.keys c.as_slice-2.result.now c.requires.within.keys c.len.ensures c.as_slice-2.ensures
+    all_below (λ (y : KeyTerm). nodes_of y.branches) (length g.nodes) c.len.result g.keys c.as_slice-2.result.now c.requires.within.keys c.len.ensures c.as_slice-2.ensures
 
 pub returns-then-has_all_marks : goal.returns-then-has_all_marks
 returns-then-has_all_marks c =
