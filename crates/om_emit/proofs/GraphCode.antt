@@ -72,14 +72,14 @@ module _ {W S : Type 0} (m : Meaning W S) where
     node_at : ℕ → Key → Node W
     node_at k node = cond (is_inner node) (inner (map fusion_of (terms_at terms k)) (m.moved (den node))) (leg (m.loaded (least node.legs)))
 
-    nodes_of : ℕ → List Key → List (Node W)
-    nodes_of k [] = []
-    nodes_of k (node ∷ nodes) = node_at k node ∷ nodes_of (suc k) nodes
+    nodes_at : ℕ → List Key → List (Node W)
+    nodes_at k [] = []
+    nodes_at k (node ∷ nodes) = node_at k node ∷ nodes_at (suc k) nodes
 
-    length-nodes_of : (k : ℕ) (nodes : List Key) → length (nodes_of k nodes) ≡ length nodes
-    unfolding nodes_of
-    length-nodes_of k [] = refl
-    length-nodes_of k (node ∷ nodes) = ap suc (length-nodes_of (suc k) nodes)
+    length-nodes_at : (k : ℕ) (nodes : List Key) → length (nodes_at k nodes) ≡ length nodes
+    unfolding nodes_at
+    length-nodes_at k [] = refl
+    length-nodes_at k (node ∷ nodes) = ap suc (length-nodes_at (suc k) nodes)
 
     node_steps : (k : ℕ) (node : Key) → map (step_of m) (node_ops den terms k node) ≡ node_code k (node_at k node)
     unfolding node_ops node_code node_at
@@ -89,8 +89,8 @@ module _ {W S : Type 0} (m : Meaning W S) where
         by true = map-append (step_of m) (map fuse_op (terms_at terms k)) (prop k (den node) ∷ []) ∙ ap (λ xs. xs ++ step.prop k (m.moved (den node)) ∷ []) (term_steps k terms)
         by false = refl
 
-    nodes_steps : (k : ℕ) (nodes : List Key) → map (step_of m) (nodes_ops den terms k nodes) ≡ nodes_code k (nodes_of k nodes)
-    unfolding nodes_ops nodes_code nodes_of
+    nodes_steps : (k : ℕ) (nodes : List Key) → map (step_of m) (nodes_ops den terms k nodes) ≡ nodes_code k (nodes_at k nodes)
+    unfolding nodes_ops nodes_code nodes_at
     nodes_steps k [] = refl
     nodes_steps k (node ∷ nodes) = map-append (step_of m) (node_ops den terms k node) (nodes_ops den terms (suc k) nodes) ∙ ap₂ (λ xs ys. xs ++ ys) (node_steps k node) (nodes_steps (suc k) nodes)
 
@@ -108,8 +108,8 @@ module _ {W S : Type 0} (m : Meaning W S) where
         by true h = let w = h refl in (subst (λ n. 0 < n) (sym (length-map (terms_at terms k) fusion_of)) w.0, fusions_below k (terms_at terms k) w.1)
         by false h = tt
 
-    nodes_built : (k : ℕ) (nodes : List Key) → NodesAreBuilt terms k nodes → AreBuilt k (nodes_of k nodes)
-    unfolding nodes_of
+    nodes_built : (k : ℕ) (nodes : List Key) → NodesAreBuilt terms k nodes → AreBuilt k (nodes_at k nodes)
+    unfolding nodes_at
     nodes_built k [] h = tt
     nodes_built k (node ∷ nodes) h = (node_built k node h.0, nodes_built (suc k) nodes h.1)
 
@@ -124,8 +124,8 @@ module _ {W S : Type 0} (m : Meaning W S) where
           by true e = e ∙ ap (λ xs. m.moved (den node) (gathered plus blank xs)) (sym (map_map (λ f. f.made (map wave f.branches)) fusion_of (terms_at terms k)))
           by false e = e
 
-      nodes_are_waves : (k : ℕ) (nodes : List Key) → AreNodeContents {S = S} plus blank m den terms wave k nodes → AreWaves plus blank wave k (nodes_of k nodes)
-      unfolding nodes_of
+      nodes_are_waves : (k : ℕ) (nodes : List Key) → AreNodeContents {S = S} plus blank m den terms wave k nodes → AreWaves plus blank wave k (nodes_at k nodes)
+      unfolding nodes_at
       nodes_are_waves k [] h = tt
       nodes_are_waves k (node ∷ nodes) h = (node_is_wave k node h.0, nodes_are_waves (suc k) nodes h.1)
 
@@ -147,7 +147,7 @@ module _ {W S : Type 0} (m : Meaning W S) where
 
   module _ (model : Model) (n : ℕ) (graph : Graph) where
     abbrev code_nodes : List (Node W)
-    code_nodes = nodes_of (den_place model n graph) graph.terms 0 graph.nodes
+    code_nodes = nodes_at (den_place model n graph) graph.terms 0 graph.nodes
 
     abbrev code_keys : List (Keystone W S)
     code_keys = map keystone_of graph.keys
@@ -164,7 +164,7 @@ module _ {W S : Type 0} (m : Meaning W S) where
     code_closed : IsBuilt graph → AllByRecursion (λ y. AllByRecursion (λ b. b < length code_nodes) y.branches) code_keys
     code_closed built =
         let P : ℕ → Type 0 = λ k. AllByRecursion (λ y. AllByRecursion (λ b. b < k) y.branches) code_keys in
-        subst P (sym (length-nodes_of (den_place model n graph) graph.terms 0 graph.nodes)) (keys_closed (length graph.nodes) graph.keys built.keys)
+        subst P (sym (length-nodes_at (den_place model n graph) graph.terms 0 graph.nodes)) (keys_closed (length graph.nodes) graph.keys built.keys)
 
 module _ {W S : Type 0} (plus : W → W → W) where
   pub graph_keeps_finds : GraphCodeKeepsFinds W S plus

@@ -11,6 +11,7 @@ ghost use Rattle.om_legs.specs.BranchNodes.{mark_each};
 use crate::planner::Planner;
 use om_code::Instr;
 use om_graph::KeyTerm;
+use om_legs::Branches;
 use om_ring::NoMemory;
 use std::alloc::Global;
 use std::collections::BTreeSet;
@@ -148,10 +149,19 @@ fn last_uses_with_keys(
 {
     let mut last = last_uses(alloc, instrs, registers)?;
     for (i, key) in keys.iter().enumerate() {
-        key.branches
-            .mark(last.as_mut_slice(), instrs.len() + i);
+        mark_branches(&mut last, &key.branches, instrs.len() + i);
     }
     Ok(last)
+}
+
+// The last so far that names the nodes that meet.
+#[inline(always)]
+fn mark_branches(last: &mut Vec<usize>, branches: &Branches, at: usize)
+    requires in_range { All (λ r. r < vec_len last.old) (nodes_of branches.now) }
+    ensures marked { last.new.items ≡ mark_each at last.old.items (nodes_of branches.now) }
+    ensures length { vec_len last.new ≡ vec_len last.old }
+{
+    branches.mark(last.as_mut_slice(), at);
 }
 
 // By register, the last instruction that names it.

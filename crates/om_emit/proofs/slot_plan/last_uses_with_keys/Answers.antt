@@ -10,6 +10,6 @@ loop-i-init c = record {
 
 pub loop-i-preserved : goal.loop-i-preserved
 loop-i-preserved c = record {
-  last = keys_more c.args.registers c.args.instrs.now c.args.keys.now c.loop-i.i (length c.args.instrs.now + c.loop-i.i) c.index-keys-i.result c.loop-i.last.items c.mark.new.marks (omega arith) c.index-keys-i.is (omega arith) c.loop-i.invariant.last c.mark.ensures.marks;
-  length = c.mark.ensures.length ∙ c.loop-i.invariant.length;
+  last = keys_more c.args.registers c.args.instrs.now c.args.keys.now c.loop-i.i (length c.args.instrs.now + c.loop-i.i) c.index-keys-i.result c.loop-i.last.items c.mark_branches.new.last.items (omega arith) c.index-keys-i.is (omega arith) c.loop-i.invariant.last c.mark_branches.ensures.marked;
+  length = c.mark_branches.ensures.length ∙ c.loop-i.invariant.length;
 }

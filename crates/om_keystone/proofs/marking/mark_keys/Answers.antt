@@ -9,8 +9,8 @@ loop-key-init c = record { marks = refl; length = refl }
 
 pub loop-key-preserved : goal.loop-key-preserved
 loop-key-preserved c = record {
-  marks = mark_keys_step (mark_keys c.args.marks.now (map unsigned_key c.args.keys.now)) c.loop-key.marks c.mark_branches.new.marks c.args.keys.now c.key-item.result c.loop-key.key-index (omega arith) c.key-item.is c.loop-key.invariant.marks c.mark_branches.ensures.marks;
-  length = c.mark_branches.ensures.length ∙ c.loop-key.invariant.length;
+  marks = mark_keys_step (mark_keys c.args.marks.now (map unsigned_key c.args.keys.now)) c.loop-key.marks c.mark.new.marks c.args.keys.now c.key-item.result c.loop-key.key-index (omega arith) c.key-item.is c.loop-key.invariant.marks c.mark.ensures.marks;
+  length = c.mark.ensures.length ∙ c.loop-key.invariant.length;
 }
 
 pub returns-clause-marks : goal.returns-clause-marks

@@ -16,8 +16,8 @@ loop-i-preserved-then-has_mark c =
     let here : c.loop-i.marks ≡ mark_terms c.args.marks.now (map unsigned (drop ((c.loop-i.i - 1) + 1) c.args.terms.now)) =
     c.loop-i.invariant.marks ∙ ap (λ n. mark_terms c.args.marks.now (map unsigned (drop n c.args.terms.now))) k in
     record {
-      marks = mark_terms_more c.args.marks.now c.loop-i.marks c.mark_branches.new.marks c.args.terms.now c.index-terms-i.result (c.loop-i.i - 1) (omega arith) c.index-terms-i.is here (search rules) c.mark_branches.ensures.marks;
-      length = c.mark_branches.ensures.length ∙ c.loop-i.invariant.length;
+      marks = mark_terms_more c.args.marks.now c.loop-i.marks c.mark.new.marks c.args.terms.now c.index-terms-i.result (c.loop-i.i - 1) (omega arith) c.index-terms-i.is here (search rules) c.mark.ensures.marks;
+      length = c.mark.ensures.length ∙ c.loop-i.invariant.length;
     }
 
 pub loop-i-preserved : goal.loop-i-preserved
