@@ -103,8 +103,10 @@ fn placed_branches(branches: &Branches, plan: &SlotPlan) -> Branches
     ensures counted { result.count ≡ length (nodes_of result) }
 {
     let [a, b, c, d] = branches.nodes;
-    Branches::first_of(
-        branches.count,
-        [plan.slot(a), plan.slot(b), plan.slot(c), plan.slot(d)],
-    )
+    let (a, b) = (plan.slot(a), plan.slot(b));
+    match branches.count {
+        2 => Branches::two(a, b),
+        3 => Branches::three(a, b, plan.slot(c)),
+        _ => Branches::four(a, b, plan.slot(c), plan.slot(d)),
+    }
 }
